@@ -1,0 +1,5 @@
+pub mod Kinds
+pub mod Rows
+pub mod Trees
+pub mod Levels
+pub mod Refusals

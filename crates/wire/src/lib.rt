@@ -1,0 +1,5 @@
+// The vocabulary of all the others: kinds and rows of a message, levels, and refusals.
+pub mod kind;
+pub mod level;
+pub mod refusal;
+pub mod row;
