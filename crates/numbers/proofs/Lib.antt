@@ -1,0 +1,2 @@
+pub mod IntsBack
+pub mod Spelled

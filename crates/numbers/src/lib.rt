@@ -1,0 +1,3 @@
+// The texts of numbers: ints and doubles.
+pub mod ints;
+mod signs;
