@@ -1,2 +1,3 @@
 pub mod IntsBack
+pub mod DoublesBack
 pub mod Spelled

@@ -1,12 +1,12 @@
 -- Doubles: an optional sign, one or more digits, and optionally a point and one or more digits.
+use mathlib.Core.Path.{_≡_}
 use mathlib.Core.Bool.{Bool, true, false, cond, _&&_, _||_}
 use mathlib.Core.List.{List, [], _∷_, _++_}
-use Prim.Native.Nat.{ℕ, _+_, _-_, _/_, _%_, _^_}
-use lib.Chars.{codes}
+use Prim.Native.Nat.{ℕ, max, _+_, _-_, _/_, _%_, _^_}
 use lib.Dec.{leb, eqb}
 use lib.IntN.{ℤ, natAbs}
 use lib.ListN.{length, getD, take, drop}
-use Rattle.std.specs.shelf.Lists.{leading, ending}
+use Rattle.std.specs.shelf.Lists.{All, leading, ending}
 use Rattle.std.specs.declared.option.Option.{Option}
 use Rattle.std.specs.declared.option.Option.the-variants.{Some, None}
 use Rattle.texts.specs.Bytes.{within, unblanked}
@@ -16,6 +16,9 @@ use Rattle.numbers.specs.Ints.{isNumeral}
 
 abbrev pub isZero : ℕ → Bool
 isZero b = within 48 48 b
+
+abbrev pub AllDigits : List ℕ → Type 0
+AllDigits ds = All (λ d. isDigit d ≡ true) ds
 
 -- the digits at the front, and what follows them
 abbrev pub whole : List ℕ → List ℕ
@@ -35,28 +38,34 @@ countedWhole ds = drop (leading isZero ds) ds
 abbrev pub countedFraction : List ℕ → List ℕ
 countedFraction ds = take (length ds - ending isZero ds) ds
 
-abbrev pub counted : List ℕ → List ℕ
-counted bs = countedWhole (whole bs) ++ countedFraction (drop 1 (behind bs))
+-- the digits of the fraction, none where there is no point
+abbrev pub fraction : List ℕ → List ℕ
+fraction bs = drop 1 (behind bs)
 
--- digits with an optional fraction, of which at most 18 count
+abbrev pub counted : List ℕ → List ℕ → List ℕ
+counted ws fs = countedWhole ws ++ countedFraction fs
+
+-- one or more digits, optionally a fraction, and at most 18 digits that count
 abbrev pub isPlainDouble : List ℕ → Bool
-isPlainDouble bs = leb 1 (length (whole bs)) && (isFraction (behind bs) && leb (length (counted bs)) 18)
+isPlainDouble bs = leb 1 (leading isDigit bs) && (isFraction (behind bs) && leb (length (counted (whole bs) (fraction bs))) 18)
 
--- the number and the scale that a text without blanks round it spells: the counted digits as one
+-- the number and the scale that a sign and what stands behind it spell: the counted digits as one
 -- signed whole number, and how many of them are the fraction's
+abbrev pub signedDouble : Bool → List ℕ → Option (ℤ × ℕ)
+signedDouble minus bs =
+    cond (isPlainDouble bs) (Some (signed minus (worth (counted (whole bs) (fraction bs))), length (countedFraction (fraction bs)))) None
+
+-- the number and the scale that a text without blanks round it spells
 abbrev pub plainDouble : List ℕ → Option (ℤ × ℕ)
-plainDouble bs =
-  cond (isPlainDouble (afterSign bs))
-    (Some (signed (isMinus bs) (worth (counted (afterSign bs))), length (countedFraction (drop 1 (behind (afterSign bs))))))
-    None
+plainDouble bs = signedDouble (isMinus bs) (afterSign bs)
 
 -- the number and the scale that a text spells
 abbrev pub doubleOf : List ℕ → Option (ℤ × ℕ)
 doubleOf bs = plainDouble (unblanked bs)
 
--- the digits behind the point: `scale` of them, or a single zero
+-- the digits behind the point: the last `scale` digits of the number, or a single zero where it has none
 abbrev pub fractionSpelling : ℕ → ℕ → List ℕ
-fractionSpelling n scale = cond (eqb scale 0) (codes "0") (padded scale n)
+fractionSpelling n scale = padded (max scale 1) (cond (eqb scale 0) 0 n)
 
 -- how a double is written: a digit at least on each side of the point, `-` only below zero
 abbrev pub doubleSpelling : ℤ → ℕ → List ℕ

@@ -1,3 +1,4 @@
 // The texts of numbers: ints and doubles.
+pub mod doubles;
 pub mod ints;
 mod signs;

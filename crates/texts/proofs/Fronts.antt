@@ -33,6 +33,6 @@ ending-none p xs x other = ap (leading p) (reverse-append xs (x ∷ [])) ∙ con
 pub all-leading : {X : Type 0} (p : X → Bool) (xs : List X) → All (λ x. p x ≡ true) (take (leading p xs) xs)
 all-leading p [] = tt
 all-leading p (x ∷ xs) = ⊎-elim
-  (λ yes. rw (cond-true (p x) (1 + leading p xs) 0 yes) (let more : 1 + leading p xs ≡ suc (leading p xs) = omega arith in rw more (yes, all-leading p xs)))
-  (λ other. rw (cond-false (p x) (1 + leading p xs) 0 other) tt)
-  (cases-bool (p x))
+    (λ yes. rw (cond-true (p x) (1 + leading p xs) 0 yes) (let more : 1 + leading p xs ≡ suc (leading p xs) = omega arith in rw more (yes, all-leading p xs)))
+    (λ other. rw (cond-false (p x) (1 + leading p xs) 0 other) tt)
+    (cases-bool (p x))

@@ -1,3 +1,4 @@
 pub mod Numerals
 pub mod Fronts
 pub mod Bare
+pub mod Written

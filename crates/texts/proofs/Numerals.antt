@@ -5,11 +5,11 @@ use mathlib.Core.List.{List, [], _∷_, _++_}
 use Prim.Native.Nat.{ℕ, zero, suc, _+_, _-_, _*_, _/_, _%_, _^_, _≤_, _<_}
 use native.Mathlib.Omega.{arith}
 use native.Mathlib.Nat.{pow-suc, pow-succ', mul-assoc, mod-add-div, mod-one, div-div-eq-div-mul}
-use lib.ListN.{length}
+use lib.ListN.{length, getD}
 use Rattle.std.specs.shelf.Lists.{All}
 use Rattle.std.specs.Written.{decimal}
 use Rattle.std.proofs.shelf.Decimals.{decimal-by-steps, decimal-some}
-use Rattle.std.proofs.shelf.Elements.{all-push}
+use Rattle.std.proofs.shelf.Elements.{all-push, all-getD}
 use Rattle.std.proofs.shelf.Lists.{length-push}
 use Rattle.std.proofs.shelf.Ways.{tells}
 use Rattle.texts.specs.Digits.{isDigit, worth, worthAfter, padded}
@@ -23,6 +23,10 @@ pub worthAfter-append : (n : ℕ) (ds es : List ℕ) → worthAfter n (ds ++ es)
 worthAfter-append n [] es = refl
 worthAfter-append n (d ∷ ds) es = worthAfter-append (n * 10 + (d - 48)) ds es
 
+-- each of the digits lies from `0` to `9`
+pub digit-at : (ds : List ℕ) (i : ℕ) → All (λ d. isDigit d ≡ true) ds → i < length ds → (48 ≤ getD ds i 0) × (getD ds i 0 ≤ 57)
+digit-at ds i h lt = let p = all-getD (λ d. isDigit d ≡ true) ds i 0 lt h in grind (arith, tells)
+
 pub length-padded : (w n : ℕ) → length (padded w n) ≡ w
 length-padded zero n = refl
 length-padded (suc w) n = omega (arith, length-push (padded w (n / 10)) (48 + n % 10), length-padded w (n / 10))
@@ -34,11 +38,12 @@ all-padded (suc w) n = all-push (λ d. isDigit d ≡ true) (padded w (n / 10)) (
 -- what is written of a number: its digits, worth the number
 pub decimal-worth : (n : ℕ) → n < 2 ^ 64 → (decimal n ≡ padded (length (decimal n)) n) × (worth (decimal n) ≡ n)
 decimal-worth = decimal-by-steps (λ n ds. (ds ≡ padded (length ds) n) × (worth ds ≡ n))
-  (λ n small. let same : n % 10 ≡ n = omega arith in (ap (λ k. (48 + k) ∷ []) (sym same), omega arith))
-  (λ n ds big h.
-    let longer : length (ds ++ (48 + n % 10) ∷ []) ≡ suc (length ds) = omega (arith, length-push ds (48 + n % 10)) in
-    (ap (λ l. l ++ (48 + n % 10) ∷ []) (h .0) ∙ ap (λ k. padded k n) (sym longer),
-     worthAfter-append 0 ds ((48 + n % 10) ∷ []) ∙ omega (arith, h .1)))
+    (λ n small. let same : n % 10 ≡ n = omega arith in (ap (λ k. (48 + k) ∷ []) (sym same), omega arith))
+    (λ n ds big h.
+    let longer : length (ds ++ (48 + n % 10) ∷ []) ≡ suc (length ds) = omega (arith, length-push ds (48 + n % 10)) in (
+      ap (λ l. l ++ (48 + n % 10) ∷ []) (h .0) ∙ ap (λ k. padded k n) (sym longer),
+      worthAfter-append 0 ds ((48 + n % 10) ∷ []) ∙ omega (arith, h .1),
+    ))
 
 pub all-decimal : (n : ℕ) → n < 2 ^ 64 → All (λ d. isDigit d ≡ true) (decimal n)
 all-decimal n small = subst (All (λ d. isDigit d ≡ true)) (sym (decimal-worth n small .0)) (all-padded (length (decimal n)) n)

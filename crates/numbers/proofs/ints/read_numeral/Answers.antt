@@ -29,10 +29,11 @@ loop-digit-again c =
     let ds = c .args .digits .now in
     let i = c .loop-digit .digit-index in
     let n = c .loop-digit .n in
-    let go = leading-drop-yes isDigit ds i 0 (omega arith) (sym (c .if-not-is-ascii-digit .ensures tt .value)) in
-    (ap (λ d. worthAfter (n * 10 + d) (drop (i + 1) ds)) (c .from .ensures) ∙ sym (at-drop-more (worthAfter n) ds i 0 (omega arith)) ∙ c .loop-digit .inv .0,
-     c .if-n-most .left,
-     omega (arith, go, c .loop-digit .inv .2))
+    let go = leading-drop-yes isDigit ds i 0 (omega arith) (sym (c .if-not-is-ascii-digit .ensures tt .value)) in (
+      ap (λ d. worthAfter (n * 10 + d) (drop (i + 1) ds)) (c .from .ensures) ∙ sym (at-drop-more (worthAfter n) ds i 0 (omega arith)) ∙ c .loop-digit .inv .0,
+      c .if-n-most .left,
+      omega (arith, go, c .loop-digit .inv .2),
+    )
 
 pub returns-then-n-most : need.returns-then-n-most
 returns-then-n-most c =

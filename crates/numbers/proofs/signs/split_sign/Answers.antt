@@ -30,5 +30,6 @@ pub returns-in-rest : need.returns-in-rest
 returns-in-rest c =
     let bs = c .args .text .now in
     elim (c .in-rest .came) [
-      in-rest·by·then-text-lt1 w ↦ unsigned bs (grind (arith, tells, getD-past bs 0 0)) (grind (arith, tells, getD-past bs 0 0))
-    | in-rest·by·else-text-lt1·in-rest· w ↦ unsigned bs (grind (arith, tells)) (grind (arith, tells)) ]
+      | in-rest·by·then-text-lt1 w ↦ unsigned bs (grind (arith, tells, getD-past bs 0 0)) (grind (arith, tells, getD-past bs 0 0))
+      | in-rest·by·else-text-lt1·in-rest· w ↦ unsigned bs (grind (arith, tells)) (grind (arith, tells))
+    ]
