@@ -1,0 +1,3 @@
+// Dates: a type that holds days of the calendar only, and their text.
+pub mod date;
+pub mod text;
