@@ -1,3 +1,4 @@
-pub mod IntsBack
+pub mod DoublesAre
 pub mod DoublesBack
+pub mod IntsBack
 pub mod Spelled

@@ -3,10 +3,10 @@ ghost use mathlib.Core.Path.{_≡_};
 ghost use mathlib.Core.Bool.{true, false};
 ghost use Prim.Native.Nat.{ℕ, _+_, _^_, _/_, _<_, _≤_};
 ghost use lib.Dec.{leb};
+ghost use lib.IntN.{ℤ};
 ghost use lib.ListN.{length, drop};
 ghost use Rattle.std.specs.Options.{Cases as BySome};
 ghost use Rattle.std.specs.Results.{Cases, okPart};
-ghost use Rattle.std.specs.Vec.{made};
 ghost use Rattle.std.specs.declared.option.Option.the-variants.{Some};
 ghost use Rattle.texts.specs.Digits.{worth, worthAfter};
 ghost use Rattle.texts.specs.Pages.{Writes};
@@ -97,9 +97,10 @@ fn read_unsigned(text: &[u8]) -> Result<(u64, u8), Malformed>
     count_digits(&text[0..digits], fraction)
 }
 
-// The number and the scale that a text spells.
+// The number and the scale that a text spells; both are such as a double can have.
 pub fn read_double(text: &[u8]) -> Result<(i64, u8), Malformed>
-    ensures { λ r. ⌜ okPart r ≡ doubleOf (now (text .entry)) ⌝ }
+    ensures value { λ r. ⌜ okPart r ≡ doubleOf (now (text .entry)) ⌝ }
+    ensures double { λ _. ⌜ ((number : ℤ) (scale : ℕ) → doubleOf (now (text .entry)) ≡ Some (number, scale) → isDouble number scale ≡ true) ⌝ }
 {
     let (minus, digits) = split_sign(unblanked(text));
     let (magnitude, scale) = read_unsigned(digits)?;

@@ -36,3 +36,13 @@ all-leading p (x ∷ xs) = ⊎-elim
     (λ yes. rw (cond-true (p x) (1 + leading p xs) 0 yes) (let more : 1 + leading p xs ≡ suc (leading p xs) = omega arith in rw more (yes, all-leading p xs)))
     (λ other. rw (cond-false (p x) (1 + leading p xs) 0 other) tt)
     (cases-bool (p x))
+
+-- what stands behind the leading elements is not of the class
+pub leading-stop : (p : ℕ → Bool) (xs : List ℕ) → leading p xs < length xs → p (getD xs (leading p xs) 0) ≡ false
+leading-stop p [] h = absurd (omega arith)
+leading-stop p (x ∷ xs) h = ⊎-elim
+    (λ yes.
+    let at : leading p (x ∷ xs) ≡ suc (leading p xs) = cond-true (p x) (1 + leading p xs) 0 yes ∙ omega arith in
+    ap (λ k. p (getD (x ∷ xs) k 0)) at ∙ leading-stop p xs (omega (arith, at)))
+    (λ other. ap (λ k. p (getD (x ∷ xs) k 0)) (cond-false (p x) (1 + leading p xs) 0 other) ∙ other)
+    (cases-bool (p x))
