@@ -8,7 +8,7 @@ use texts::digits::digit_count;
 use texts::digits::fill_digits;
 
 // Whether a minus stands first, and what follows the sign.
-pub fn split_sign(text: &[u8]) -> (bool, &[u8])
+pub(crate) fn split_sign(text: &[u8]) -> (bool, &[u8])
     ensures minus { λ r. ⌜ r .0 ≡ isMinus (now (text .entry)) ⌝ }
     ensures rest { λ r. ⌜ now (r .1) ≡ afterSign (now (text .entry)) ⌝ }
 {
@@ -20,14 +20,14 @@ pub fn split_sign(text: &[u8]) -> (bool, &[u8])
 }
 
 // How long a magnitude is with its sign.
-pub fn signed_len(minus: bool, magnitude: u64) -> usize
+pub(crate) fn signed_len(minus: bool, magnitude: u64) -> usize
     ensures { λ r. ⌜ r ≡ length (signedSpelling minus magnitude) ⌝ ∗ ⌜ r ≤ 21 ⌝ }
 {
     usize::from(minus) + digit_count(magnitude)
 }
 
 // Writes a magnitude with its sign, `len` bytes.
-pub fn put_signed(minus: bool, magnitude: u64, len: usize, page: &mut [u8])
+pub(crate) fn put_signed(minus: bool, magnitude: u64, len: usize, page: &mut [u8])
     requires { ⌜ len ≡ length (signedSpelling minus magnitude) ⌝ ∗ ⌜ len ≤ length (now page) ⌝ }
     ensures { λ _. ⌜ now (page .exit) ≡ signedSpelling minus magnitude ++ drop len (now (page .entry)) ⌝ }
 {

@@ -1,0 +1,9 @@
+pub mod Names
+pub mod Numerals
+pub mod Steps
+pub mod Pages
+pub mod Leading
+pub mod Bodies
+pub mod BodyBytes
+pub mod ReadBack
+pub mod Reading
