@@ -15,6 +15,9 @@ use texts::Malformed;
 use texts::bytes::unblanked;
 use texts::pages::write_text;
 
+// How long every date is.
+const LEN: usize = 17;
+
 // What two digits at a place are worth.
 fn two_digits_at(text: &[u8], at: usize) -> Option<u8>
     requires { ⌜ at + 1 < length (now text) ⌝ }
@@ -32,7 +35,7 @@ fn two_digits_at(text: &[u8], at: usize) -> Option<u8>
 fn read_plain(text: &[u8]) -> Option<Date>
     ensures { λ r. ⌜ mapped momentOf r ≡ plainDate (now (text .entry)) ⌝ }
 {
-    if text.len() != 17 {
+    if text.len() != LEN {
         return None;
     }
     if text[8] != b'T' || text[11] != b':' || text[14] != b':' {
@@ -67,7 +70,7 @@ pub fn read_date(text: &[u8]) -> Result<Date, Malformed>
 pub fn date_len() -> usize
     ensures { λ r. ⌜ ((m : Moment) → r ≡ length (dateSpelling m)) ⌝ }
 {
-    17
+    LEN
 }
 
 // Writes the spelling of a date.
