@@ -19,7 +19,7 @@ fn say(text: &str, out: &mut Vec<u8>) -> Result<(), AllocError> {
 }
 
 impl Tally {
-    pub fn new() -> Tally {
+    pub(crate) fn new() -> Tally {
         Tally {
             lines: 0,
             read: 0,
@@ -28,7 +28,7 @@ impl Tally {
     }
 
     // Adds the answer to a line, with its line feed, and counts it.
-    pub fn answer(
+    pub(crate) fn answer(
         &mut self,
         heap: Global,
         line: &[u8],

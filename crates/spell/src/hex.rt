@@ -31,7 +31,7 @@ fn digit_value(byte: u8) -> Option<u8>
 }
 
 // Adds the bytes in hexadecimal.
-pub fn encode(bytes: &[u8], out: &mut Vec<u8>) -> Result<(), AllocError> {
+pub(crate) fn encode(bytes: &[u8], out: &mut Vec<u8>) -> Result<(), AllocError> {
     if bytes.is_empty() {
         out.push(b'-')?;
     }
@@ -43,7 +43,7 @@ pub fn encode(bytes: &[u8], out: &mut Vec<u8>) -> Result<(), AllocError> {
 }
 
 // The bytes that hexadecimal stands for; nothing where it has another shape.
-pub fn decode(heap: Global, hex: &[u8]) -> Result<Option<Vec<u8>>, AllocError> {
+pub(crate) fn decode(heap: Global, hex: &[u8]) -> Result<Option<Vec<u8>>, AllocError> {
     let mut bytes = Vec::new(heap);
     if hex == b"-" {
         return Ok(Some(bytes));

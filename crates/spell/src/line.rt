@@ -21,7 +21,7 @@ pub enum TextKind {
 }
 
 // The kind that a word names.
-pub fn kind_of(name: &str) -> Option<TextKind>
+pub(crate) fn kind_of(name: &str) -> Option<TextKind>
     ensures { λ r. ⌜ Cases r ((k : SomeKind) → now (name .entry) ≡ word k → ⊥) (λ k. now (name .entry) ≡ word k) ⌝ }
 {
     match name {
@@ -37,7 +37,7 @@ pub fn kind_of(name: &str) -> Option<TextKind>
 }
 
 // Where the line that holds `at` ends: at its line feed or at the end of the input.
-pub fn end_of_line(bytes: &[u8], at: usize) -> usize
+pub(crate) fn end_of_line(bytes: &[u8], at: usize) -> usize
     requires { ⌜ at ≤ length (now bytes) ⌝ }
     ensures within { λ r. ⌜ (at ≤ r) × (r ≤ length (now (bytes .entry))) ⌝ }
     ensures line { λ r. ⌜ ((k : ℕ) → at ≤ k → k < r → getD (now (bytes .entry)) k 0 ≡ 10 → ⊥) ⌝ }
@@ -51,7 +51,7 @@ pub fn end_of_line(bytes: &[u8], at: usize) -> usize
 }
 
 // What a line asks for; nothing where it has another shape.
-pub fn parse(heap: Global, line: &[u8]) -> Result<Option<(TextKind, Vec<u8>)>, AllocError> {
+pub(crate) fn parse(heap: Global, line: &[u8]) -> Result<Option<(TextKind, Vec<u8>)>, AllocError> {
     let Ok(text) = std::str::from_utf8(line) else {
         return Ok(None);
     };

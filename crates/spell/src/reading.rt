@@ -44,7 +44,7 @@ pub enum Outcome {
 }
 
 // Reads a text of a kind and writes it again.
-pub fn read_text(heap: Global, kind: TextKind, text: &[u8]) -> Result<Outcome, AllocError> {
+pub(crate) fn read_text(heap: Global, kind: TextKind, text: &[u8]) -> Result<Outcome, AllocError> {
     match kind {
         TextKind::Method => method(heap, text),
         TextKind::Int => int(heap, text),
