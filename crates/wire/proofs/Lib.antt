@@ -1,0 +1,2 @@
+pub mod TellApart
+pub mod RowKinds

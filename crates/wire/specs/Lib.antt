@@ -3,3 +3,4 @@ pub mod Rows
 pub mod Trees
 pub mod Levels
 pub mod Refusals
+pub mod RowLaws

@@ -61,7 +61,7 @@ numberRow k number scale = record { kind = k; count = 0; number = number; scale 
 abbrev pub holderRow : Kind → ℕ → List ℕ → Content
 holderRow k count text = record { kind = k; count = count; number = pos 0; scale = 0; text = text }
 
-mutual
+unfoldable mutual
   -- the rows of a value in reading order: its own, then those of its parts
   pub valueRows : Value → List Content
   valueRows (int n) = numberRow kind.Int n 0 ∷ []

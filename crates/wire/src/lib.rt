@@ -1,5 +1,6 @@
-// The vocabulary of all the others: kinds and rows of a message, levels, and refusals.
+// The vocabulary of all the others: kinds and rows of a message, its tree, levels, and refusals.
 pub mod kind;
 pub mod level;
 pub mod refusal;
 pub mod row;
+pub mod tree;

@@ -1,0 +1,7 @@
+pub mod Begun
+pub mod Closed
+pub mod Found
+pub mod OneWay
+pub mod Spelled
+pub mod Turns
+pub mod Walk
