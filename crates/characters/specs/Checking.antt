@@ -1,7 +1,7 @@
 -- Whether a text is character data.
 use mathlib.Core.Bool.{cond}
 use mathlib.Core.List.{List}
-use Prim.Native.Nat.{ℕ}
+use Prim.Native.Nat.{ℕ, _<_}
 use lib.ListN.{length}
 use Rattle.std.specs.declared.option.Option.{Option}
 use Rattle.std.specs.declared.option.Option.the-variants.{Some, None}
@@ -24,3 +24,9 @@ counted text = unlessBad (firstBad text) (length (decoded text))
 -- a byte that may not stand raw goes first, wherever it is; then the first bad reference; else how many characters there are
 abbrev pub checked : List ℕ → Result ℕ BadCharacters
 checked text = cond (allCharacters text) (counted text) (Err Byte)
+
+-- a bad reference stands in the text
+abbrev pub Within : List ℕ → Result ℕ BadCharacters → Type 0
+Within text (Ok n) = Unit {0}
+Within text (Err (Reference at)) = at < length text
+Within text (Err Byte) = Unit {0}

@@ -1,6 +1,6 @@
 // Whether a text is character data, and how many characters it has.
 ghost use mathlib.Core.Path.{_≡_};
-ghost use Rattle.characters.specs.Checking.{counted, checked};
+ghost use Rattle.characters.specs.Checking.{counted, checked, Within};
 ghost use Rattle.characters.specs.References.{allCharacters};
 ghost use Rattle.characters.specs.Rule.{Judges};
 use crate::reference::is_character;
@@ -28,8 +28,9 @@ fn all_characters(text: &[u8]) -> bool
 }
 
 // How many characters a text has, or where its first bad reference stands.
-fn count_characters(text: &[u8]) -> Result<usize, BadCharacters>
-    ensures { λ r. ⌜ r ≡ counted (now (text .entry)) ⌝ }
+pub fn count_characters(text: &[u8]) -> Result<usize, BadCharacters>
+    ensures value { λ r. ⌜ r ≡ counted (now (text .entry)) ⌝ }
+    ensures within { λ r. ⌜ Within (now (text .entry)) r ⌝ }
 {
     let mut count = 0;
     let mut at = 0;

@@ -8,6 +8,7 @@ mod write;
 
 pub use check::BadCharacters;
 pub use check::check_characters;
+pub use check::count_characters;
 pub use compare::characters_are;
 pub use compare::same_characters;
 pub use cursor::Characters;

@@ -19,5 +19,5 @@ pub returns : need.returns
 returns c =
     let text = c .args .text .now in
     let p : allCharacters text ≡ true = sym (c .all-characters .ensures) ∙ c .if-not-all-characters .left in
-    let v : c .count-characters .result ≡ checked text = c .count-characters .ensures ∙ sym (simp p) in
+    let v : c .count-characters .result ≡ checked text = c .count-characters .ensures .value ∙ sym (simp p) in
     record { verdict = v; rule = subst (Judges text) (sym v) (judges text) }

@@ -16,7 +16,7 @@ returns-in-None c =
     let text = c .args .text .now in
     let at = c .loop-at .at in
     let e : unitAt (getD text at 0) (drop (at + 1) text) ≡ None = ap (unitAt (getD text at 0)) (sym (take-rest text (at + 1))) ∙ sym (c .unit .ensures .value) ∙ c .in-None .is in
-    ap (λ o. unlessBad o (length (decoded text))) (sym (bad-none text at (omega arith) e) ∙ c .loop-at .inv .3)
+    record { value = ap (λ o. unlessBad o (length (decoded text))) (sym (bad-none text at (omega arith) e) ∙ c .loop-at .inv .3); within = omega arith }
 
 pub loop-at-again : need.loop-at-again
 loop-at-again c =
@@ -38,4 +38,4 @@ returns c =
     let b : firstBad text ≡ None = sym (c .loop-at .inv .3) ∙ bad-end text at (omega arith) in
     let d = ap length (decoded-end text at (omega arith)) in
     let n : c .loop-at .count ≡ length (decoded text) = omega (arith, d, c .loop-at .inv .2) in
-    ap Ok n ∙ ap (λ o. unlessBad o (length (decoded text))) (sym b)
+    record { value = ap Ok n ∙ ap (λ o. unlessBad o (length (decoded text))) (sym b); within = tt }

@@ -1,0 +1,3 @@
+// Reading a message into rows, or telling the first refusal.
+mod frame;
+mod runs;
