@@ -29,6 +29,12 @@ pub data Parts : Type 0 where
   broken : ℕ → Parts
   _then_ : Piece → Parts → Parts
 
+-- how many parts there are
+abbrev pub partCount : Parts → ℕ
+partCount ends = 0
+partCount (broken q) = 0
+partCount (p then ps) = 1 + partCount ps
+
 -- no `<`
 abbrev pub inRun : ℕ → Bool
 inRun b = not (eqb b 60)

@@ -1,7 +1,7 @@
 -- What a reader has still to give.
 use mathlib.Core.Path.{_≡_}
 use mathlib.Core.List.{List, []}
-use Prim.Native.Nat.{ℕ}
+use Prim.Native.Nat.{ℕ, _+_, _≤_}
 use lib.ListN.{length, take, drop}
 use Rattle.std.specs.declared.option.Option.{Option}
 use Rattle.std.specs.declared.option.Option.the-variants.{Some, None}
@@ -35,9 +35,21 @@ partsBy (next.Close t) p bs = tag (t .place) (tags.Close (t .name)) then partsFr
 unfoldable pub partsLeft : Reader → Parts
 partsLeft r = partsBy (r .next) (r .at) (drop (r .at) (r .message .now))
 
+-- a reader does not stand past the end of its message
+abbrev pub Inside : Reader → Type 0
+Inside r = r .at ≤ length (r .message .now)
+
+-- a run does not reach past the end of a message of so many bytes
+abbrev pub RunInside : ℕ → Result (Option Token) Refusal → Type 0
+RunInside n (Ok (Some (token.Open name part))) = Unit {0}
+RunInside n (Ok (Some (token.Close name part))) = Unit {0}
+RunInside n (Ok (Some (token.Run part))) = part .place + length (part .bytes .now) ≤ n
+RunInside n (Ok None) = Unit {0}
+RunInside n (Err e) = Unit {0}
+
 -- a reader starts behind the declaration, with all parts from there on; an open declaration is refused
 abbrev pub Begins : List ℕ → Result Reader Refusal → Type 0
-Begins msg (Ok r) = (n : ℕ) × (declarationLen msg ≡ Some n) × (r .message .now ≡ msg) × (partsLeft r ≡ partsFrom n (drop n msg))
+Begins msg (Ok r) = (n : ℕ) × (declarationLen msg ≡ Some n) × (r .message .now ≡ msg) × (partsLeft r ≡ partsFrom n (drop n msg)) × Inside r
 Begins msg (Err e) = (declarationLen msg ≡ None) × (e ≡ OpenDeclaration)
 
 -- what a reader gives is the first of the parts that were left; or none is left; or a `<` begins no tag

@@ -5,7 +5,7 @@ ghost use Prim.Native.Nat.{ℕ, _+_, _-_, _≤_};
 ghost use lib.ListN.{length, take, drop};
 ghost use Rattle.std.specs.shelf.Lists.{leading};
 ghost use Rattle.parts.specs.Cutting.{tag as tagPiece, inRun, runAt, CutInOneWay};
-ghost use Rattle.parts.specs.Readers.{pieceOf, partsLeft, Begins, Gives};
+ghost use Rattle.parts.specs.Readers.{pieceOf, partsLeft, Inside, RunInside, Begins, Gives};
 ghost use Rattle.parts.specs.declared.reader.Next.the-variants.{Tag as TagNext};
 use crate::declaration::declaration_len;
 use crate::name::Name;
@@ -138,6 +138,7 @@ impl<'a> Reader<'a> {
         requires { ⌜ now self .next ≡ TagNext ⌝ }
         ensures same { λ _. ⌜ now (self .exit) .message ≡ now (self .entry) .message ⌝ }
         ensures gives { λ r. ⌜ Gives (partsLeft (now (self .entry))) r (partsLeft (now (self .exit))) ⌝ }
+        ensures inside { λ r. ⌜ (Inside (now (self .entry)) → Inside (now (self .exit)) × RunInside (length (now (now (self .entry) .message))) r) ⌝ }
     {
         let message = self.message;
         let place = self.at;
@@ -163,6 +164,7 @@ impl<'a> Reader<'a> {
     pub fn next(&mut self) -> Result<Option<Token<'a>>, Refusal>
         ensures same { λ _. ⌜ now (self .exit) .message ≡ now (self .entry) .message ⌝ }
         ensures gives { λ r. ⌜ Gives (partsLeft (now (self .entry))) r (partsLeft (now (self .exit))) ⌝ }
+        ensures inside { λ r. ⌜ (Inside (now (self .entry)) → Inside (now (self .exit)) × RunInside (length (now (now (self .entry) .message))) r) ⌝ }
     {
         let message = self.message;
         let at = self.at;

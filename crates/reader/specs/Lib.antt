@@ -2,3 +2,5 @@ pub mod Runs
 pub mod Steps
 pub mod Grammar
 pub mod Contents
+pub mod Held
+pub mod Reading

@@ -1,3 +1,5 @@
 // Reading a message into rows, or telling the first refusal.
 mod frame;
+mod machine;
+mod read;
 mod runs;
