@@ -1,1 +1,3 @@
+pub mod Memory
 pub mod Stack
+pub mod Whole

@@ -3,3 +3,5 @@ mod frame;
 mod machine;
 mod read;
 mod runs;
+
+pub use read::read_rows;
