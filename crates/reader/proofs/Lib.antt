@@ -1,3 +1,15 @@
+pub mod Accepted
+pub mod Agreed
+pub mod Complete
+pub mod CutParts
+pub mod Derived
+pub mod Exact
+pub mod GoodRuns
+pub mod Lines
 pub mod Memory
+pub mod PassedRuns
+pub mod Rest
+pub mod RowsSay
+pub mod Sound
 pub mod Stack
 pub mod Whole

@@ -4,3 +4,4 @@ pub mod Grammar
 pub mod Contents
 pub mod Held
 pub mod Reading
+pub mod Derivations

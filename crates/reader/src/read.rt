@@ -2,6 +2,7 @@
 ghost use mathlib.Core.Path.{_≡_};
 ghost use Prim.Native.Nat.{_+_, _<_, _≤_, _^_};
 ghost use lib.ListN.{length, set};
+ghost use Rattle.reader.specs.Derivations.{DerivedIsRead, ReadIsDerived, OneMessage};
 ghost use Rattle.reader.specs.Held.{Fit};
 ghost use Rattle.reader.specs.Reading.{Short, ShortRun, Fed, reading, Said, rowsOf, within, leftBy};
 ghost use Rattle.std.specs.Results.{Cases};
@@ -94,10 +95,13 @@ fn try_rows(message: &[u8], rows: &mut [Row]) -> Result<usize, Refusal>
 }
 
 // The rows of a message, or the first refusal; a refused message leaves the lent rows blank.
+// A message is read exactly when the grammar derives it, in one way, and the rows say what it derives.
 // Names that come twice, and the value of a fault, are not looked at.
 pub fn read_rows(message: &[u8], rows: &mut [Row]) -> Result<usize, Refusal>
     ensures value { λ r. ⌜ r ≡ within (length (now (rows .entry))) (rowsOf (now (message .entry))) ⌝ }
     ensures rows { λ r. ⌜ now (rows .exit) ≡ leftBy r (rowsOf (now (message .entry))) (now (rows .entry)) ⌝ }
+    ensures derived { λ _. ⌜ DerivedIsRead (now (message .entry)) × ReadIsDerived (now (message .entry)) ⌝ }
+    ensures one { λ _. ⌜ OneMessage (now (message .entry)) ⌝ }
 {
     match try_rows(message, rows) {
         Ok(used) => Ok(used),
