@@ -5,6 +5,7 @@ pub mod CutParts
 pub mod Derived
 pub mod Exact
 pub mod GoodRuns
+pub mod Known
 pub mod Lines
 pub mod Memory
 pub mod PassedRuns

@@ -5,3 +5,4 @@ pub mod Contents
 pub mod Held
 pub mod Reading
 pub mod Derivations
+pub mod KnownCases

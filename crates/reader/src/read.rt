@@ -4,6 +4,7 @@ ghost use Prim.Native.Nat.{_+_, _<_, _≤_, _^_};
 ghost use lib.ListN.{length, set};
 ghost use Rattle.reader.specs.Derivations.{DerivedIsRead, ReadIsDerived, OneMessage};
 ghost use Rattle.reader.specs.Held.{Fit};
+ghost use Rattle.reader.specs.KnownCases.{KnownCases};
 ghost use Rattle.reader.specs.Reading.{Short, ShortRun, Fed, reading, Said, rowsOf, within, leftBy};
 ghost use Rattle.std.specs.Results.{Cases};
 ghost use Rattle.characters.specs.References.{isCharacter};
@@ -102,6 +103,7 @@ pub fn read_rows(message: &[u8], rows: &mut [Row]) -> Result<usize, Refusal>
     ensures rows { λ r. ⌜ now (rows .exit) ≡ leftBy r (rowsOf (now (message .entry))) (now (rows .entry)) ⌝ }
     ensures derived { λ _. ⌜ DerivedIsRead (now (message .entry)) × ReadIsDerived (now (message .entry)) ⌝ }
     ensures one { λ _. ⌜ OneMessage (now (message .entry)) ⌝ }
+    ensures known { λ _. ⌜ KnownCases ⌝ }
 {
     match try_rows(message, rows) {
         Ok(used) => Ok(used),
