@@ -46,7 +46,7 @@ complete msg len _ _ at (a-call {a = a} {p = p} {g = g} {s = s} {e = e} {q = q} 
           ∙ (λ i. Ok (st Finished [] (u1 i) (row (n1 i) ∷ rs))),
       (λ i. tree.holderRow kind.Call n (sym (at .1 .1 .0) i) ∷ said .0 i),
     )
-complete msg len _ _ at (a-response {a = a} {p = p} {g = g} {s = s} {h = h} {o = o} {e = e} {q = q} {f = f} {r = r} {i = i} {j = j} {z = z} {b = b} {c = c} {k = k} {t = t} {u = u} {x = x} {w = w} {ps = ps} b1 c1 k1 v t1 u1 x1 w1) =
+complete msg len _ _ at (a-response {a = a} {p = p} {g = g} {s = s} {h = h} {o = o} {e = e} {q = q} {f = f} {r = r} {i = i} {j = j} {z = z} {b = b} {c = c} {k = k} {t = t} {u = u} {x = x} {w = w} {ps = ps} b1 c1 k1 v t1 u1 x1 w′) =
     let F = λ (n : ℕ). frame shape.Response 0 n (spanAt 0 0) ∷ [] in
     let rs = valueOf v in
     let row = textRow kind.Response 1 (spanAt 0 0) in
@@ -63,11 +63,11 @@ complete msg len _ _ at (a-response {a = a} {p = p} {g = g} {s = s} {h = h} {o =
           ∙ took len (Response response.ParamDone) (F 1) (1 + length rs) (blankRow ∷ rs) e t q (Close name.Param) (run f u then tag r (Close name.Params) then closed) (blank-run e t t1)
           ∙ took len (Response response.ParamsDone) (F 1) (1 + length rs) (blankRow ∷ rs) f u r (Close name.Params) closed (blank-run f u u1)
           ∙ took len (Response response.Done) (F 1) (1 + length rs) (blankRow ∷ rs) i x j (Close name.MethodResponse) last (blank-run i x x1)
-          ∙ end-read len (1 + length rs) (row ∷ rs) z w w1
+          ∙ end-read len (1 + length rs) (row ∷ rs) z w w′
           ∙ (λ i. Ok (st Finished [] (n1 i) (row ∷ rs))),
       ap (λ l. tree.holderRow kind.Response 1 [] ∷ l) (said .0),
     )
-complete msg len _ _ at (a-fault {a = a} {p = p} {g = g} {s = s} {e = e} {q = q} {f = f} {r = r} {z = z} {b = b} {c = c} {t = t} {u = u} {w = w} {ps = ps} b1 c1 v t1 u1 w1) =
+complete msg len _ _ at (a-fault {a = a} {p = p} {g = g} {s = s} {e = e} {q = q} {f = f} {r = r} {z = z} {b = b} {c = c} {t = t} {u = u} {w = w} {ps = ps} b1 c1 v t1 u1 w′) =
     let F = λ (n : ℕ). frame shape.Fault 0 n (spanAt 0 0) ∷ [] in
     let R = frame shape.Response 0 0 (spanAt 0 0) ∷ [] in
     let rs = valueOf v in
@@ -82,7 +82,7 @@ complete msg len _ _ at (a-fault {a = a} {p = p} {g = g} {s = s} {e = e} {q = q}
           ∙ value-read len v in-fault (F 0) 1 (blankRow ∷ []) (omega arith) refl
           ∙ took len (Response response.FaultDone) (F 1) (1 + length rs) (blankRow ∷ rs) e t q (Close name.Fault) closed (blank-run e t t1)
           ∙ took len (Response response.Done) (F 1) (1 + length rs) (blankRow ∷ rs) f u r (Close name.MethodResponse) last (blank-run f u u1)
-          ∙ end-read len (1 + length rs) (row ∷ rs) z w w1
+          ∙ end-read len (1 + length rs) (row ∷ rs) z w w′
           ∙ (λ i. Ok (st Finished [] (n1 i) (row ∷ rs))),
       ap (λ l. tree.holderRow kind.Fault 1 [] ∷ l) (said .0),
     )
