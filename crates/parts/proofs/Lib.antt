@@ -1,5 +1,6 @@
 pub mod Begun
 pub mod Closed
+pub mod Cuts
 pub mod Found
 pub mod OneWay
 pub mod Spelled

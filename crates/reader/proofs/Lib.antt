@@ -4,6 +4,8 @@ pub mod Complete
 pub mod CutParts
 pub mod Derived
 pub mod Exact
+pub mod FaultRows
+pub mod FaultTold
 pub mod GoodRuns
 pub mod Known
 pub mod Lines

@@ -6,3 +6,4 @@ pub mod Held
 pub mod Reading
 pub mod Derivations
 pub mod KnownCases
+pub mod Faults
