@@ -7,8 +7,8 @@ use Rattle.texts.proofs.bytes.unblanked.Goals as goal
 pub returns : goal.returns
 returns c =
     let text = c.args.text.now in
-    let rest = take (length text - c.leading-of.result) (drop c.leading-of.result text) in
-    let cut : rest ≡ after_blanks text = take_rest text c.leading-of.result ∙ ap (λ n. drop n text) c.leading-of.ensures.value in
-    let behind : c.trailing-of.result ≡ suffix_len is_blank (after_blanks text) = c.trailing-of.ensures.value ∙ ap (suffix_len is_blank) cut in
-    let size : length rest - c.trailing-of.result - 0 ≡ length (after_blanks text) - suffix_len is_blank (after_blanks text) = omega (arith, ap length cut, behind) in
+    let rest = take (length text - c.leading_of.result) (drop c.leading_of.result text) in
+    let cut : rest ≡ after_blanks text = take_rest text c.leading_of.result ∙ ap (λ n. drop n text) c.leading_of.ensures.value in
+    let behind : c.trailing_of.result ≡ suffix_len is_blank (after_blanks text) = c.trailing_of.ensures.value ∙ ap (suffix_len is_blank) cut in
+    let size : length rest - c.trailing_of.result - 0 ≡ length (after_blanks text) - suffix_len is_blank (after_blanks text) = omega (arith, ap length cut, behind) in
     (λ i. take (size i) (cut i))

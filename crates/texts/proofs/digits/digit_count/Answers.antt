@@ -16,8 +16,8 @@ loop-rest-preserved c =
     let more = length_push (decimal (m / 10)) (48 + m % 10) in
     (omega arith, omega arith, inv.2)
 
-pub overflow-add-count : goal.overflow-add-count
-overflow-add-count c = omega (arith, decimal_nonempty c.loop-rest.rest c.loop-rest.invariant.1)
+pub overflow_add-count : goal.overflow_add-count
+overflow_add-count c = omega (arith, decimal_nonempty c.loop-rest.rest c.loop-rest.invariant.1)
 
 pub returns : goal.returns
 returns c =
