@@ -15,8 +15,8 @@ use Rattle.numbers.proofs.DoublesAre.{double_is}
 use Rattle.numbers.proofs.DoublesBack.{double_reads_back, all_double}
 use Rattle.dates.specs.Moments.{Moment, date_of, date_spelling}
 use Rattle.dates.proofs.Spelled.{date_is, date_reads_back, all_date}
-use Rattle.base64.specs.Base64.{is_letter, is_base64, decoded, base64_spelling}
-use Rattle.base64.proofs.Groups.{decoded_below, reads_back, all_spelling}
+use Rattle.base64_texts.specs.Base64.{is_letter, is_base64, decoded, base64_spelling}
+use Rattle.base64_texts.proofs.Groups.{decoded_below, reads_back, all_spelling}
 use Rattle.characters.specs.Rule.{CharacterData}
 use Rattle.characters.specs.Spelling.{characters_spelling}
 use Rattle.characters.proofs.BodyBytes.{Good}

@@ -5,7 +5,7 @@ use Rattle.texts.specs.Booleans.{boolean_spelling}
 use Rattle.numbers.specs.Ints.{int_of, int_spelling}
 use Rattle.numbers.specs.Doubles.{double_of, double_spelling}
 use Rattle.dates.specs.Moments.{Moment, date_of, date_spelling}
-use Rattle.base64.specs.Base64.{decoded, base64_spelling}
+use Rattle.base64_texts.specs.Base64.{decoded, base64_spelling}
 use Rattle.characters.specs.Rule.{CharacterData}
 use Rattle.characters.specs.Spelling.{characters_spelling}
 use Rattle.parts.specs.declared.name.Name.TheVariants as name

@@ -3,7 +3,7 @@ ghost use Rattle.std.specs.Prelude.{◌≡◌, ℕ, List, [], ◌∷◌, ◌++�
 ghost use Rattle.texts.specs.Digits.{worth};
 ghost use Rattle.commands.specs.Numbers.{capped, Spaced};
 
-use texts::bytes::leading_of;
+use texts::bytes::{Digit, leading_of};
 
 // What follows the front that a text begins with.
 pub(crate) fn behind<'a>(text: &'a [u8], front: &[u8]) -> Option<&'a [u8]>
@@ -29,7 +29,7 @@ fn next_number(text: &[u8]) -> Option<(usize, &[u8])>
     ensures { MatchOption result ((n : ℕ) (ns : List ℕ) → Spaced text.now (n ∷ ns) → ⊥) (λ p. ((ns : List ℕ) → Spaced p.1.now ns → Spaced text.now (p.0 ∷ ns)) × ((n : ℕ) (ns : List ℕ) → Spaced text.now (n ∷ ns) → (p.0 ≡ n) × Spaced p.1.now ns)) }
 {
     let rest = behind(text, b" ")?;
-    let digits = leading_of::<texts::bytes::Digit>(rest);
+    let digits = leading_of::<Digit>(rest);
     if digits == 0 {
         return None;
     }

@@ -1,6 +1,6 @@
 -- What a text has still to give.
 use Rattle.std.specs.Prelude.{ℕ, List}
-use Rattle.base64.specs.Cursor as base64
+use Rattle.base64_texts.specs.Cursor as base64
 use Rattle.characters.specs.Left as characters
 use Rattle.held.specs.declared.text.Text.{Text}
 use Rattle.held.specs.declared.text.Text.TheVariants as text

@@ -8,7 +8,7 @@ use crate::composed::Composed;
 use crate::held::{Facts, Held};
 use crate::message::ReadMessage;
 use crate::text::Text;
-use base64::Decoded;
+use base64_texts::Decoded;
 use characters::Characters;
 use parts::reader::Part;
 use wire::kind::Kind;

@@ -3,7 +3,7 @@ ghost use Rattle.std.specs.Prelude.{◌≡◌, [], ◌∷◌, length, MatchOptio
 ghost use Rattle.held.specs.Texts.{left as toCome};
 ghost use Rattle.std.specs.Iterator.{at_most};
 
-use base64::Decoded;
+use base64_texts::Decoded;
 use characters::Characters;
 
 // Bytes that stand for themselves.

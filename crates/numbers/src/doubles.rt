@@ -7,7 +7,7 @@ ghost use Rattle.numbers.specs.Doubles.{is_zero, AllDigits, is_fraction, is_plai
 
 use crate::signs::{put_signed, signed_len, split_sign};
 use texts::Malformed;
-use texts::bytes::{Class, leading_of, trailing_of, unblanked};
+use texts::bytes::{Class, Digit, leading_of, trailing_of, unblanked};
 use texts::digits::fill_digits;
 
 // The digit zero, which does not count at either end.
@@ -44,7 +44,7 @@ fn split_fraction(rest: &[u8]) -> Option<&[u8]>
     match rest {
         [] => Some(rest),
         [b'.', digits @ ..] => {
-            let n = leading_of::<texts::bytes::Digit>(digits);
+            let n = leading_of::<Digit>(digits);
             if n > 0 && n == digits.len() {
                 Some(digits)
             } else {
@@ -75,7 +75,7 @@ fn count_digits(whole: &[u8], fraction: &[u8]) -> Result<(u64, u8), Malformed>
 fn read_unsigned(text: &[u8]) -> Result<(u64, u8), Malformed>
     ensures { MatchResult result (λ p. (is_plain_double text.now ≡ true) × (p.0 ≡ worth (counted (wholeDigits text.now) (fractionDigits text.now))) × (p.1 ≡ length (counted_fraction (fractionDigits text.now))) × (p.0 < 10 ^ 18)) (λ _. is_plain_double text.now ≡ false) }
 {
-    let digits = leading_of::<texts::bytes::Digit>(text);
+    let digits = leading_of::<Digit>(text);
     if digits == 0 {
         return Err(Malformed);
     }

@@ -3,8 +3,8 @@ use Rattle.std.proofs.Common.{◌≡◌, ℕ, List, [], ◌∷◌, ◌++◌, sym
 use Rattle.std.specs.declared.fmt.Formatter.{Formatter}
 use Rattle.std.specs.Fmt.{IsPlainFormatter, HasWritten}
 use Rattle.std.proofs.Output.{writes_in_calls_nil, has_written_of_eq, has_written_append}
-use Rattle.hex.specs.Hex.{hex_byte, hex_digits, hex_text}
-use Rattle.hex.proofs.Digits.{hex_digits-append}
+use Rattle.hex_texts.specs.Hex.{hex_byte, hex_digits, hex_text}
+use Rattle.hex_texts.proofs.Digits.{hex_digits-append}
 
 module _ {W : Type 0} (took : W → List ℕ → W → Type 0) where
   -- what has come of all the bytes, but for those that are left, is written

@@ -7,7 +7,7 @@ use Rattle.wire.specs.Kinds.{kind_number}
 use Rattle.wire.specs.Refusals.{told}
 use Rattle.wire.specs.Trees.{Content}
 use Rattle.reader.specs.Contents.{content_of}
-use Rattle.hex.specs.Hex.{hex_text}
+use Rattle.hex_texts.specs.Hex.{hex_text}
 
 -- a row: the number of its kind, its count, number and scale, and its text as read
 abbrev pub content_line : Content → List ℕ

@@ -1,15 +1,15 @@
 // A row of a message as a line.
 ghost use Rattle.std.specs.Fmt.{WritesOnOk};
 ghost use Rattle.std.specs.Prelude.{Some};
-ghost use Rattle.base64.specs.Base64 as base64;
+ghost use Rattle.base64_texts.specs.Base64 as base64;
 ghost use Rattle.characters.specs.Decoding as characters;
-ghost use Rattle.hex.specs.Hex.{hex_text};
+ghost use Rattle.hex_texts.specs.Hex.{hex_text};
 ghost use Rattle.reader.specs.Contents.{read_as, content_of};
 ghost use Rattle.outcomes.specs.Outcomes.{content_line};
 
-use base64::Decoded;
+use base64_texts::Decoded;
 use characters::Characters;
-use hex::{Hex, write_byte};
+use hex_texts::{Hex, write_byte};
 use std::fmt;
 use wire::kind::Kind;
 use wire::row::Row;

@@ -3,7 +3,7 @@ ghost use Rattle.std.specs.Prelude.{◌≡◌, ℕ, ◌+◌, ◌<◌, ◌≤◌,
 ghost use Rattle.parts.specs.Tags.{element_of, in_name, named, close_tag, open_tag, name_len, name_end, tag_of};
 
 use crate::name::Name;
-use texts::bytes::{Class, leading_of};
+use texts::bytes::{Blank, Class, leading_of};
 
 #[derive(Clone, Copy)]
 pub enum Tag {
@@ -56,7 +56,7 @@ fn named_until(bytes: &[u8]) -> Option<(Name, usize)>
     let len = leading_of::<NameByte>(bytes);
     let name = Name::from_spelling(&bytes[0..len])?;
     let rest = &bytes[len..bytes.len()];
-    Some((name, len + leading_of::<texts::bytes::Blank>(rest)))
+    Some((name, len + leading_of::<Blank>(rest)))
 }
 
 // The close tag that the bytes behind `</` begin with.

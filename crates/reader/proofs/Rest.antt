@@ -8,7 +8,7 @@ use Rattle.texts.specs.Methods.{is_method_name}
 use Rattle.numbers.specs.Ints.{int_of}
 use Rattle.numbers.specs.Doubles.{double_of}
 use Rattle.dates.specs.Moments.{date_of}
-use Rattle.base64.specs.Base64.{is_base64}
+use Rattle.base64_texts.specs.Base64.{is_base64}
 use Rattle.characters.specs.Rule.{CharacterData}
 use Rattle.characters.proofs.BodyBytes.{Good}
 use Rattle.parts.specs.declared.name.Name.TheVariants as name

@@ -5,7 +5,7 @@ use Rattle.wire.specs.declared.kind.Kind.TheVariants as kind
 use Rattle.wire.specs.declared.row.Row.{Row}
 use Rattle.wire.specs.Trees as tree
 use Rattle.wire.specs.Trees.{Content, value_rows, members_rows, values_rows}
-use Rattle.base64.specs.Base64 as base64
+use Rattle.base64_texts.specs.Base64 as base64
 use Rattle.characters.specs.Decoding as characters
 use Rattle.characters.specs.Rule.{CharacterData}
 use Rattle.characters.proofs.Reading as reading

@@ -4,7 +4,7 @@ use Rattle.wire.specs.declared.kind.Kind.{Kind}
 use Rattle.wire.specs.declared.kind.Kind.TheVariants as kind
 use Rattle.wire.specs.declared.row.Row.{Row}
 use Rattle.wire.specs.Trees.{Content}
-use Rattle.base64.specs.Base64 as base64
+use Rattle.base64_texts.specs.Base64 as base64
 use Rattle.characters.specs.Decoding as characters
 use Rattle.parts.specs.Cutting.{run, tag, Parts, ends, broken, ◌then◌}
 

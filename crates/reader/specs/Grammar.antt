@@ -8,7 +8,7 @@ use Rattle.texts.specs.Methods.{is_method_name}
 use Rattle.numbers.specs.Ints.{int_of}
 use Rattle.numbers.specs.Doubles.{double_of}
 use Rattle.dates.specs.Moments.{Moment, date_of, date_spelling}
-use Rattle.base64.specs.Base64.{is_base64, decoded}
+use Rattle.base64_texts.specs.Base64.{is_base64, decoded}
 use Rattle.characters.specs.Rule.{CharacterData}
 use Rattle.parts.specs.declared.name.Name.TheVariants as name
 use Rattle.parts.specs.declared.tag.Tag.TheVariants.{Open, Close}

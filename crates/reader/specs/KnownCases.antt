@@ -7,7 +7,7 @@ use Rattle.wire.specs.declared.refusal.Refusal.TheVariants.{Unfinished, BadText,
 use Rattle.numbers.specs.Ints.{int_of}
 use Rattle.numbers.specs.Doubles.{double_of, double_spelling}
 use Rattle.dates.specs.Moments.{Moment, date_of}
-use Rattle.base64.specs.Base64.{is_base64, decoded}
+use Rattle.base64_texts.specs.Base64.{is_base64, decoded}
 use Rattle.reader.specs.Reading.{rows_of}
 
 -- a text and what it reads as, a number and how it is written, or a message and its refusal

@@ -15,7 +15,7 @@ use Rattle.texts.specs.Methods.{is_method_name}
 use Rattle.numbers.specs.Ints.{int_of}
 use Rattle.numbers.specs.Doubles.{double_of}
 use Rattle.dates.specs.Moments.{Moment, date_of}
-use Rattle.base64.specs.Base64.{is_base64}
+use Rattle.base64_texts.specs.Base64.{is_base64}
 use Rattle.characters.specs.Checking.{counted}
 use Rattle.characters.specs.declared.check.BadCharacters.{BadCharacters}
 use Rattle.characters.specs.declared.check.BadCharacters.TheVariants.{Byte, Reference}

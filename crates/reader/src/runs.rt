@@ -4,7 +4,7 @@ ghost use Rattle.reader.specs.Runs.{span_at, number_row, blank_run, characters_r
 ghost use Rattle.table.specs.declared.mode.Plain.TheVariants.{Int, Boolean, Double, Date, Base64};
 ghost use Rattle.table.specs.declared.mode.CallMode.TheVariants.{Name as MethodName};
 
-use base64::check_base64;
+use base64_texts::check_base64;
 use characters::{BadCharacters, count_characters};
 use dates::text::read_date;
 use numbers::doubles::read_double;
@@ -12,7 +12,7 @@ use numbers::ints::read_int;
 use parts::tag::Tag;
 use table::mode::{CallMode, Mode, Plain, StructMode, ValueMode};
 use texts::booleans::read_boolean;
-use texts::bytes::leading_of;
+use texts::bytes::{Blank, leading_of};
 use texts::methods::read_method_name;
 use wire::kind::Kind;
 use wire::refusal::Refusal;
@@ -35,7 +35,7 @@ pub(crate) fn blank_run(place: usize, bytes: &[u8]) -> Result<Row, Refusal>
     requires { place + length bytes.now < 2 ^ 32 }
     ensures { result ≡ blank_run place bytes.now }
 {
-    let blanks = leading_of::<texts::bytes::Blank>(bytes);
+    let blanks = leading_of::<Blank>(bytes);
     if blanks == bytes.len() {
         Ok(Row::BLANK)
     } else {
@@ -110,7 +110,7 @@ fn date_run(place: usize, bytes: &[u8]) -> Result<Row, Refusal>
     requires { place + length bytes.now < 2 ^ 32 }
     ensures { result ≡ plain_run Date place bytes.now }
 {
-    let blanks = leading_of::<texts::bytes::Blank>(bytes);
+    let blanks = leading_of::<Blank>(bytes);
     match read_date(bytes) {
         Ok(_) => Ok(Row {
             kind: Kind::Date,

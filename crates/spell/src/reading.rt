@@ -1,6 +1,6 @@
 // What a text reads as, and its canonical spelling.
 use crate::line::TextKind;
-use base64::{Decoded, base64_len, check_base64, write_base64};
+use base64_texts::{Decoded, base64_len, check_base64, write_base64};
 use characters::{BadCharacters, Characters, characters_len, check_characters, write_characters};
 use dates::text::{date_len, read_date, write_date};
 use numbers::doubles::{double_len, read_double, write_double};

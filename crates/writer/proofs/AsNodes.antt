@@ -8,7 +8,7 @@ use Rattle.wire.specs.Trees as tree
 use Rattle.texts.specs.Booleans.{boolean_spelling}
 use Rattle.numbers.specs.Ints.{int_spelling}
 use Rattle.numbers.specs.Doubles.{double_spelling}
-use Rattle.base64.specs.Base64.{base64_spelling}
+use Rattle.base64_texts.specs.Base64.{base64_spelling}
 use Rattle.characters.specs.Spelling.{characters_spelling}
 use Rattle.parts.specs.declared.name.Name.{Name}
 use Rattle.parts.specs.declared.name.Name.TheVariants as name

@@ -1,6 +1,6 @@
 -- Base64 letters, group by group.
 use Rattle.std.proofs.Common.{◌≡◌, ℕ, List, [], ◌∷◌, ◌++◌, length, Some, None, Option, sym, refl, ap, ◌∙◌, append-nil, arith, MatchOption}
-use Rattle.base64.specs.Base64.{base64_spelling}
+use Rattle.base64_texts.specs.Base64.{base64_spelling}
 use Rattle.writer.specs.Texts.{group_of}
 
 abbrev Gives : List ℕ → Option ℕ → List ℕ → Type 0

@@ -5,7 +5,7 @@ use Rattle.wire.specs.declared.kind.Kind.TheVariants as kind
 use Rattle.wire.specs.Trees.{Content}
 use Rattle.numbers.specs.Ints.{int_spelling}
 use Rattle.numbers.specs.Doubles.{double_spelling}
-use Rattle.base64.specs.Base64.{base64_spelling}
+use Rattle.base64_texts.specs.Base64.{base64_spelling}
 use Rattle.characters.specs.Spelling.{characters_spelling}
 
 -- in front of the text

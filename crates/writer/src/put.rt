@@ -4,13 +4,13 @@ ghost use Rattle.std.specs.Prelude.{◌≡◌, ℕ, List};
 ghost use Rattle.std.specs.List.{flat_map};
 ghost use Rattle.numbers.specs.Ints.{int_spelling};
 ghost use Rattle.numbers.specs.Doubles.{double_spelling};
-ghost use Rattle.base64.specs.Base64.{base64_spelling};
+ghost use Rattle.base64_texts.specs.Base64.{base64_spelling};
 ghost use Rattle.characters.specs.Spelling.{escape};
 ghost use Rattle.held.specs.Texts.{left};
 ghost use Rattle.writer.specs.Pages.{Put};
 ghost use Rattle.writer.specs.Texts.{itself, group_of};
 
-use base64::write_base64;
+use base64_texts::write_base64;
 use characters::escaped;
 use held::text::Text;
 use numbers::doubles::{double_len, write_double};

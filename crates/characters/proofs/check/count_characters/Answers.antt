@@ -17,16 +17,16 @@ returns-in-None c =
 pub loop-at-init : goal.loop-at-init
 loop-at-init c =
     let text = c.args.text.now in
-    let n = c.leading-of-at.result in
-    let p = plain_more text 0 n n c.leading-of-at.ensures.value (omega arith) in
-    (omega arith, c.leading-of-at.ensures.bound, sym p.0, sym p.1)
+    let n = c.leading_of-at.result in
+    let p = plain_more text 0 n n c.leading_of-at.ensures.value (omega arith) in
+    (omega arith, c.leading_of-at.ensures.bound, sym p.0, sym p.1)
 
 pub loop-at-preserved : goal.loop-at-preserved
 loop-at-preserved c =
     let text = c.args.text.now in
     let at = c.loop-at.at in
     let more = c.in-Some.more in
-    let n = c.leading-of-plain.result in
+    let n = c.leading_of-plain.result in
     let next = at + (1 + more) in
     let e : unit_at (get_or text at 0) (drop (at + 1) text) ≡ Some (c.in-Some.field-0-0, more) = ap (unit_at (get_or text at 0)) (sym (take_rest text (at + 1))) ∙ sym c.unit.ensures.value ∙ c.in-Some.is in
     let on : at + 1 + more ≡ next = omega arith in
@@ -35,9 +35,9 @@ loop-at-preserved c =
     let there = ap (λ k. length (decoded (drop k text))) on in
     let b = bad_some text at (c.in-Some.field-0-0, more) short e in
     let rest = take_rest text next in
-    let p = plain_more text next n (next + n) (c.leading-of-plain.ensures.value ∙ ap (prefix_len is_plain) rest) refl in (
+    let p = plain_more text next n (next + n) (c.leading_of-plain.ensures.value ∙ ap (prefix_len is_plain) rest) refl in (
       omega arith,
-      omega (arith, c.leading-of-plain.ensures.bound, ap length rest, length-drop next text, c.in-Some.ensures.within, length-drop (at + 1) text),
+      omega (arith, c.leading_of-plain.ensures.bound, ap length rest, length-drop next text, c.in-Some.ensures.within, length-drop (at + 1) text),
       omega (arith, d, there, p.0, c.loop-at.invariant.2),
       sym p.1 ∙ ap (λ k. first_bad_from k 0 (drop k text)) (sym on) ∙ sym b ∙ c.loop-at.invariant.3,
     )

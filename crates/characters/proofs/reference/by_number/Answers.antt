@@ -3,18 +3,18 @@ use Rattle.std.proofs.lemmas.Bool.Decides.{nat_tests}
 use Rattle.characters.specs.References.{numeral}
 use Rattle.characters.proofs.reference.by_number.Goals as goal
 
-pub returns-then-is-empty : goal.returns-then-is-empty
+pub returns-then-is_empty : goal.returns-then-is_empty
 unfolding numeral
-returns-then-is-empty c = let h = c.then-is-empty.either in let e = c.is-empty.ensures in grind (arith, nat_tests)
+returns-then-is_empty c = let h = c.then-is_empty.either in let e = c.is_empty.ensures in grind (arith, nat_tests)
 
-pub returns-in-err-n : goal.returns-in-err-n
+pub returns-in_err-n : goal.returns-in_err-n
 unfolding numeral
-returns-in-err-n c = let h = c.in-err-n.ensures in let e = c.from-residual.ensures in grind (arith, nat_tests)
+returns-in_err-n c = let h = c.in_err-n.ensures in let e = c.from_residual.ensures in grind (arith, nat_tests)
 
-pub returns-then-is-character : goal.returns-then-is-character
+pub returns-then-is_character : goal.returns-then-is_character
 unfolding numeral
-returns-then-is-character c = let h = c.in-ok-n.ensures in let e = c.is-character.ensures in grind (arith, nat_tests)
+returns-then-is_character c = let h = c.in_ok-n.ensures in let e = c.is_character.ensures in grind (arith, nat_tests)
 
-pub returns-else-is-character : goal.returns-else-is-character
+pub returns-else-is_character : goal.returns-else-is_character
 unfolding numeral
-returns-else-is-character c = let h = c.in-ok-n.ensures in let e = c.is-character.ensures in grind (arith, nat_tests)
+returns-else-is_character c = let h = c.in_ok-n.ensures in let e = c.is_character.ensures in grind (arith, nat_tests)

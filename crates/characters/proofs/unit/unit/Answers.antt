@@ -12,8 +12,8 @@ returns-in-38 c =
 
 pub returns-in-13 : goal.returns-in-13
 unfolding unit_at
-returns-in-13 c = record { value = grind (arith, nat_tests); within = omega (arith, c.line-feed.ensures.within) }
+returns-in-13 c = record { value = grind (arith, nat_tests); within = omega (arith, c.line_feed.ensures.within) }
 
-pub returns-in-default : goal.returns-in-default
+pub returns-in_default : goal.returns-in_default
 unfolding unit_at
-returns-in-default c = record { value = grind (arith, nat_tests); within = omega arith }
+returns-in_default c = record { value = grind (arith, nat_tests); within = omega arith }

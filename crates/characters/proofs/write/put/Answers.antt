@@ -5,8 +5,8 @@ use Rattle.characters.specs.Spelling.{reference_for}
 use Rattle.characters.proofs.Pages.{escape_some, escape_none}
 use Rattle.characters.proofs.write.put.Goals as goal
 
-pub slice-bounds-copy-from-slice-end : goal.slice-bounds-copy-from-slice-end
-slice-bounds-copy-from-slice-end c =
+pub slice_bounds-copy_from_slice-end : goal.slice_bounds-copy_from_slice-end
+slice_bounds-copy_from_slice-end c =
     let w = c.in-Some.reference.now in
     let e : reference_for c.args.b ≡ Some w = ap reference_for (sym c.from.ensures) ∙ sym c.in-Some.ensures in
     let n = ap length (escape_some c.args.b w e) in
@@ -26,7 +26,7 @@ returns-in-Some c =
     let at = c.args.at in
     let old = c.args.page.now in
     let k : at + length w - at ≡ length w = omega arith in
-    let copied : c.copy-from-slice.new.self ≡ w = c.copy-from-slice.ensures.after ∙ c.as-bytes.ensures.value in
+    let copied : c.copy_from_slice.new.self ≡ w = c.copy_from_slice.ensures.after ∙ c.as_bytes.ensures.value in
     record {
       end = ap (λ t. at + length t) (sym n);
       page = ap (put_mid at (at + length w - at) old) copied ∙ ap (λ k. put_mid at k old w) k ∙ ap (λ l. take at old ++ (w ++ l)) (drop-drop (length w) at old) ∙ ap (λ t. take at old ++ (t ++ drop (at + length t) old)) (sym n);

@@ -5,14 +5,14 @@ use Rattle.characters.proofs.Pages.{length_more, length-end, spelling_more, page
 use Rattle.characters.proofs.ReadBack.{reads_back}
 use Rattle.characters.proofs.write.write_characters.Goals as goal
 
-pub returns-in-err-len : goal.returns-in-err-len
-returns-in-err-len c =
-    let over = c.in-err-len.ensures in
-    record { written = rw c.from-residual.ensures (omega arith, refl); reads_back = reads_back c.args.plain.now }
+pub returns-in_err-len : goal.returns-in_err-len
+returns-in_err-len c =
+    let over = c.in_err-len.ensures in
+    record { written = rw c.from_residual.ensures (omega arith, refl); reads_back = reads_back c.args.plain.now }
 
 pub returns-then-len-page : goal.returns-then-len-page
 returns-then-len-page c =
-    let len = c.in-ok-len.ensures in
+    let len = c.in_ok-len.ensures in
     record { written = (omega arith, refl); reads_back = reads_back c.args.plain.now }
 
 pub put-at-requires : goal.put-at-requires
@@ -42,7 +42,7 @@ returns c =
     let old = c.args.page.now in
     let all = take_all i plain (omega arith) in
     let done = length-end plain i (omega arith) in
-    let len = c.in-ok-len.ensures in
+    let len = c.in_ok-len.ensures in
     let at : c.loop-b.at ≡ length (characters_spelling plain) = omega arith in
     record {
       written = (len, omega arith, c.loop-b.invariant.2 ∙ ap (λ l. characters_spelling l ++ drop c.loop-b.at old) all ∙ ap (λ k. characters_spelling plain ++ drop k old) at);

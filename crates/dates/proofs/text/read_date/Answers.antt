@@ -7,6 +7,6 @@ use Rattle.dates.proofs.text.read_date.Goals as goal
 
 pub returns : goal.returns
 returns c = record {
-  date = ap (option_map moment_of) (sym c.ok-or.ensures.ok-part) ∙ c.read-plain.ensures ∙ ap plain_date c.unblanked.ensures;
+  date = ap (option_map moment_of) (sym c.ok_or.ensures.ok_part) ∙ c.read_plain.ensures ∙ ap plain_date c.unblanked.ensures;
   spelling = date_spelled c.args.text.now;
 }

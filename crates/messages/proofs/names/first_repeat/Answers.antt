@@ -2,7 +2,7 @@ use Rattle.std.proofs.Common.{◌≡◌, ◌+◌, map, length, sym, ap, ◌∙�
 use Rattle.reader.specs.Contents.{content_of}
 use Rattle.messages.specs.Repeats.{RepeatBelow, Least}
 use Rattle.messages.proofs.RepeatedNames.{comes_said, below_next, below_same, below_all}
-use Rattle.messages.proofs.names.first_repeat.Goals.{in-Struct, in-default}
+use Rattle.messages.proofs.names.first_repeat.Goals.{in-Struct, in_default}
 use Rattle.messages.proofs.names.first_repeat.Goals as goal
 
 pub loop-at-preserved : goal.loop-at-preserved
@@ -16,7 +16,7 @@ loop-at-preserved c =
           let found = comes_said msg rows c.requires.held at c.loop-at-test.true w.in-Struct.is w.repeat-in.result w.repeat-in.ensures in
           let both = below_next msg rows at c.loop-at.first w.repeat-in.result old found in
           (omega (arith, ap length w.sorted-is, w.repeat-in.auto.sorted, c.loop-at.invariant.0), subst (λ r. Least (RepeatBelow (map (content_of msg) rows) (at + 1)) r) (sym (w.first-is ∙ w.earlier-first.ensures)) both)
-      | in-default w ↦
+      | in_default w ↦
           (ap length w.sorted-is ∙ c.loop-at.invariant.0, subst (λ r. Least (RepeatBelow (map (content_of msg) rows) (at + 1)) r) (sym w.first-is) (below_same msg rows at c.loop-at.first old c.loop-at-test.true w.in-default.not-Struct))
     ]
 

@@ -30,8 +30,8 @@ flaw-requires c =
     let d = read_is_derived msg r.rs r.reads in
     record { 0 = omega (arith, ap length rows, r.fits, c.requires); said = (d.0, subst (λ l. Say msg l d.0) (sym rows) d.2) }
 
-pub returns-in-default : goal.returns-in-default
-returns-in-default c =
+pub returns-in_default : goal.returns-in_default
+returns-in_default c =
     let msg = c.args.message.now in
     let old = c.args.rows.now in
     let left = c.read-rows.new.rows in

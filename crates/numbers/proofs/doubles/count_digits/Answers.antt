@@ -22,41 +22,41 @@ pub returns-then-before-gt-MOST : goal.returns-then-before-gt-MOST
 returns-then-before-gt-MOST c =
     let ws = c.args.whole.now in
     let fs = c.args.fraction.now in
-    let zeros = c.leading-of-zeros.result in
-    let after = length fs - c.trailing-of.result in
-    let l = lengths ws fs zeros after c.leading-of-zeros.ensures.value (ap (λ k. length fs - k) c.trailing-of.ensures.value) (omega arith) in
+    let zeros = c.leading_of-zeros.result in
+    let after = length fs - c.trailing_of.result in
+    let l = lengths ws fs zeros after c.leading_of-zeros.ensures.value (ap (λ k. length fs - k) c.trailing_of.ensures.value) (omega arith) in
     elim c.then-before-gt-MOST.branch [
       | then-before-gt-MOST-via-then-before-gt-MOST w ↦ lt-leb _ _ (omega (arith, l.2))
       | then-before-gt-MOST-via-else-before-gt-MOST+then-after-before w ↦ lt-leb _ _ (omega (arith, l.2))
     ]
 
-pub worth-after-n-requires : goal.worth-after-n-requires
-worth-after-n-requires c =
+pub worth_after-n-requires : goal.worth_after-n-requires
+worth_after-n-requires c =
     let ws = c.args.whole.now in
-    let zeros = c.leading-of-zeros.result in
+    let zeros = c.leading_of-zeros.result in
     (omega arith, (All-take _ (length ws - zeros) (drop zeros ws) (All-drop _ zeros ws c.requires.0), simp (length-take, length-drop) (omega arith)))
 
-pub worth-after-n-requires-2 : goal.worth-after-n-requires-2
-worth-after-n-requires-2 c =
+pub worth_after-n-requires-2 : goal.worth_after-n-requires-2
+worth_after-n-requires-2 c =
     let ws = c.args.whole.now in
     let fs = c.args.fraction.now in
-    let zeros = c.leading-of-zeros.result in
-    let after = length fs - c.trailing-of.result in
+    let zeros = c.leading_of-zeros.result in
+    let after = length fs - c.trailing_of.result in
     let lw : 0 + length (take (length ws - zeros) (drop zeros ws)) ≡ length ws - zeros = simp (length-take, length-drop) (omega arith) in
-    (subst (λ k. c.worth-after-n.result < 10 ^ k) lw c.worth-after-n.ensures.bound, (All-take _ (after - 0) fs c.requires.1, simp length-take (omega arith)))
+    (subst (λ k. c.worth_after-n.result < 10 ^ k) lw c.worth_after-n.ensures.bound, (All-take _ (after - 0) fs c.requires.1, simp length-take (omega arith)))
 
 pub returns : goal.returns
 returns c =
     let ws = c.args.whole.now in
     let fs = c.args.fraction.now in
-    let zeros = c.leading-of-zeros.result in
-    let after = length fs - c.trailing-of.result in
-    let same : after ≡ length fs - suffix_len is_zero fs = ap (λ k. length fs - k) c.trailing-of.ensures.value in
-    let l = lengths ws fs zeros after c.leading-of-zeros.ensures.value same (omega arith) in
+    let zeros = c.leading_of-zeros.result in
+    let after = length fs - c.trailing_of.result in
+    let same : after ≡ length fs - suffix_len is_zero fs = ap (λ k. length fs - k) c.trailing_of.ensures.value in
+    let l = lengths ws fs zeros after c.leading_of-zeros.ensures.value same (omega arith) in
     let off : after - 0 ≡ after = omega arith in
-    let wholes : take (length ws - zeros) (drop zeros ws) ≡ counted_whole ws = take_rest ws zeros ∙ ap (λ k. drop k ws) c.leading-of-zeros.ensures.value in
+    let wholes : take (length ws - zeros) (drop zeros ws) ≡ counted_whole ws = take_rest ws zeros ∙ ap (λ k. drop k ws) c.leading_of-zeros.ensures.value in
     let fractions : take (after - 0) fs ≡ counted_fraction fs = ap (λ k. take k fs) (off ∙ same) in
-    let value : c.worth-after-n-2.result ≡ worth (counted ws fs) = c.worth-after-n-2.ensures.value ∙ (λ i. worth_after ((c.worth-after-n.ensures.value ∙ ap worth wholes) i) (fractions i)) ∙ sym (worth_after-append 0 (counted_whole ws) (counted_fraction fs)) in
+    let value : c.worth_after-n-2.result ≡ worth (counted ws fs) = c.worth_after-n-2.ensures.value ∙ (λ i. worth_after ((c.worth_after-n.ensures.value ∙ ap worth wholes) i) (fractions i)) ∙ sym (worth_after-append 0 (counted_whole ws) (counted_fraction fs)) in
     let few : length ws - zeros + length (take (after - 0) fs) ≤ 18 = simp length-take (omega arith) in
     let most : 10 ^ (length ws - zeros + length (take (after - 0) fs)) ≤ 10 ^ 18 = pow-le-pow_right (omega arith) few in
-    (le-leb _ _ (omega (arith, l.2)), value, sym l.1, omega (arith, c.worth-after-n-2.ensures.bound))
+    (le-leb _ _ (omega (arith, l.2)), value, sym l.1, omega (arith, c.worth_after-n-2.ensures.bound))

@@ -29,27 +29,27 @@ unless x y z = (λ h. and_left x (y && z) h, λ h. and_right x (y && z) (and_lef
 pub returns-then-digits-eq0 : goal.returns-then-digits-eq0
 returns-then-digits-eq0 c =
     let bs = c.args.text.now in
-    (unless (some bs) (is_fraction (behind bs)) (few bs)).0 (lt-leb 1 (prefix_len is_digit bs) (omega (arith, c.leading-of-digits.ensures.value)))
+    (unless (some bs) (is_fraction (behind bs)) (few bs)).0 (lt-leb 1 (prefix_len is_digit bs) (omega (arith, c.leading_of-digits.ensures.value)))
 
-pub returns-in-default : goal.returns-in-default
-returns-in-default c =
+pub returns-in_default : goal.returns-in_default
+returns-in_default c =
     let bs = c.args.text.now in
-    (unless (some bs) (is_fraction (behind bs)) (few bs)).1 (sym (ap is_fraction (rests bs c.leading-of-digits.result c.leading-of-digits.ensures.value)) ∙ c.in-default.ensures)
+    (unless (some bs) (is_fraction (behind bs)) (few bs)).1 (sym (ap is_fraction (rests bs c.leading_of-digits.result c.leading_of-digits.ensures.value)) ∙ c.in_default.ensures)
 
-pub count-digits-requires : goal.count-digits-requires
-count-digits-requires c =
+pub count_digits-requires : goal.count_digits-requires
+count_digits-requires c =
     let bs = c.args.text.now in
-    (subst AllDigits (sym (wholes bs c.leading-of-digits.result c.leading-of-digits.ensures.value)) (all_leading is_digit bs), c.in-Some.ensures.2)
+    (subst AllDigits (sym (wholes bs c.leading_of-digits.result c.leading_of-digits.ensures.value)) (all_leading is_digit bs), c.in-Some.ensures.2)
 
 pub returns : goal.returns
 returns c =
     let bs = c.args.text.now in
-    let n = c.leading-of-digits.result in
-    let r = rests bs n c.leading-of-digits.ensures.value in
-    let w = wholes bs n c.leading-of-digits.ensures.value in
+    let n = c.leading_of-digits.result in
+    let r = rests bs n c.leading_of-digits.ensures.value in
+    let w = wholes bs n c.leading_of-digits.ensures.value in
     let f : c.in-Some.fraction.now ≡ fraction bs = c.in-Some.ensures.1 ∙ ap (drop 1) r in
-    let filled : some bs ≡ true = le-leb 1 (prefix_len is_digit bs) (omega (arith, c.leading-of-digits.ensures.value)) in
+    let filled : some bs ≡ true = le-leb 1 (prefix_len is_digit bs) (omega (arith, c.leading_of-digits.ensures.value)) in
     let good : is_fraction (behind bs) ≡ true = sym (ap is_fraction r) ∙ c.in-Some.ensures.0 in
-    MatchResult-weaker c.count-digits.result c.count-digits.ensures
+    MatchResult-weaker c.count_digits.result c.count_digits.ensures
     (λ p h. (and_from (some bs) (is_fraction (behind bs) && few bs) filled (and_from (is_fraction (behind bs)) (few bs) good (sym (λ i. leb (length (counted (w i) (f i))) 18) ∙ h.0)), h.1 ∙ (λ i. worth (counted (w i) (f i))), h.2 ∙ ap (λ l. length (counted_fraction l)) f, h.3))
     (λ e h. (unless (some bs) (is_fraction (behind bs)) (few bs)).2 (sym (λ i. leb (length (counted (w i) (f i))) 18) ∙ h))

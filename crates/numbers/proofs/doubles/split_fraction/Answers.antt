@@ -17,7 +17,7 @@ pub returns-then-n-digits : goal.returns-then-n-digits
 returns-then-n-digits c =
     let r = c.args.rest.now in
     let cut = take_rest r 1 in
-    let lead = c.leading-of-n.ensures.value ∙ ap (prefix_len is_digit) cut in
+    let lead = c.leading_of-n.ensures.value ∙ ap (prefix_len is_digit) cut in
     let len = length-drop 1 r in
     let same : prefix_len is_digit (drop 1 r) ≡ length (drop 1 r) = omega (arith, ap length cut) in
     let good : is_fraction r ≡ true = grind (arith, nat_tests) in
@@ -28,7 +28,7 @@ pub returns-else-n-gt0 : goal.returns-else-n-gt0
 returns-else-n-gt0 c =
     let r = c.args.rest.now in
     let cut = take_rest r 1 in
-    let lead = c.leading-of-n.ensures.value ∙ ap (prefix_len is_digit) cut in
+    let lead = c.leading_of-n.ensures.value ∙ ap (prefix_len is_digit) cut in
     let len = length-drop 1 r in
     let len2 = ap length cut in
     ⊎_elim (λ w. grind (arith, nat_tests)) (λ w. grind (arith, nat_tests)) c.else-n-gt0.either

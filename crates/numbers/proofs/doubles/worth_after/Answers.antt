@@ -8,14 +8,14 @@ use Rattle.numbers.proofs.doubles.worth_after.Goals as goal
 small : (m k : ℕ) → m < 10 ^ k → k ≤ 17 → m < 100000000000000000
 small m k h le = let p : 10 ^ k ≤ 10 ^ 17 = pow-le-pow_right (omega arith) le in omega arith
 
-pub overflow-sub-digit : goal.overflow-sub-digit
-overflow-sub-digit c = (digit_at c.args.digits.now c.loop-digit.digit-index c.requires.1.0 (omega arith)).0
+pub overflow_sub-digit : goal.overflow_sub-digit
+overflow_sub-digit c = (digit_at c.args.digits.now c.loop-digit.digit-index c.requires.1.0 (omega arith)).0
 
-pub overflow-mul-sum : goal.overflow-mul-sum
-overflow-mul-sum c = let s = small c.loop-digit.sum (c.args.done + c.loop-digit.digit-index) c.loop-digit.invariant.1 (omega arith) in omega arith
+pub overflow_mul-sum : goal.overflow_mul-sum
+overflow_mul-sum c = let s = small c.loop-digit.sum (c.args.done + c.loop-digit.digit-index) c.loop-digit.invariant.1 (omega arith) in omega arith
 
-pub overflow-add-sum : goal.overflow-add-sum
-overflow-add-sum c =
+pub overflow_add-sum : goal.overflow_add-sum
+overflow_add-sum c =
     let s = small c.loop-digit.sum (c.args.done + c.loop-digit.digit-index) c.loop-digit.invariant.1 (omega arith) in
     let d = digit_at c.args.digits.now c.loop-digit.digit-index c.requires.1.0 (omega arith) in
     omega (arith, c.from.ensures)

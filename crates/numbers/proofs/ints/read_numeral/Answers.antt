@@ -8,23 +8,23 @@ use Rattle.texts.specs.Digits.{is_digit, worth, worth_after}
 use Rattle.texts.proofs.Numerals.{worth_after-ge}
 use Rattle.numbers.proofs.ints.read_numeral.Goals as goal
 
-pub returns-then-not-is-ascii-digit : goal.returns-then-not-is-ascii-digit
-returns-then-not-is-ascii-digit c =
+pub returns-then-not-is_ascii_digit : goal.returns-then-not-is_ascii_digit
+returns-then-not-is_ascii_digit c =
     let ds = c.args.digits.now in
     let i = c.loop-digit.digit-index in
-    let stop = prefix_len-drop_no is_digit ds i 0 (omega arith) (sym c.if-not-is-ascii-digit.ensures.value) in
+    let stop = prefix_len-drop_no is_digit ds i 0 (omega arith) (sym c.if-not-is_ascii_digit.ensures.value) in
     let short : eqb (prefix_len is_digit ds) (length ds) ≡ false = ne_eqb _ _ (λ e. omega (arith, e, stop, c.loop-digit.invariant.2)) in
     and_left _ _ (and_right _ _ short)
 
-pub overflow-sub-digit : goal.overflow-sub-digit
-overflow-sub-digit c = let p = c.if-not-is-ascii-digit.ensures.value in grind (arith, nat_tests)
+pub overflow_sub-digit : goal.overflow_sub-digit
+overflow_sub-digit c = let p = c.if-not-is_ascii_digit.ensures.value in grind (arith, nat_tests)
 
 pub loop-digit-preserved : goal.loop-digit-preserved
 loop-digit-preserved c =
     let ds = c.args.digits.now in
     let i = c.loop-digit.digit-index in
     let n = c.loop-digit.n in
-    let go = prefix_len-drop_yes is_digit ds i 0 (omega arith) (sym c.if-not-is-ascii-digit.ensures.value) in (
+    let go = prefix_len-drop_yes is_digit ds i 0 (omega arith) (sym c.if-not-is_ascii_digit.ensures.value) in (
       ap (λ d. worth_after (n * 10 + d) (drop (i + 1) ds)) c.from.ensures ∙ sym (at_drop_more (worth_after n) ds i 0 (omega arith)) ∙ c.loop-digit.invariant.0,
       c.if-n-most.false,
       omega (arith, go, c.loop-digit.invariant.2),
@@ -46,7 +46,7 @@ returns c =
     let n = c.loop-digit.n in
     let whole : n ≡ worth ds = sym (at_drop_all (worth_after n) ds i (omega arith)) ∙ c.loop-digit.invariant.0 in
     let all = prefix_len-drop_all is_digit ds i (omega arith) in
-    let filled = c.if-is-empty.ensures in
+    let filled = c.if-is_empty.ensures in
     let some : 1 ≤ length ds = grind (arith, nat_tests) in
     let most = prefix_len-le-length is_digit ds in
     let same : prefix_len is_digit ds ≡ length ds = omega (arith, all, c.loop-digit.invariant.2) in

@@ -11,7 +11,7 @@ returns-then-minus c =
     let sign = c.if-minus.true in
     let long : c.args.len ≡ 1 + length (decimal m) = c.requires.0 ∙ ap (λ s. length (signed_spelling s m)) sign ∙ omega arith in
     let part : length (take (c.args.len - 1) (drop 1 (set page 0 45))) ≡ length (decimal m) = simp (length-take, length-drop, length-set) (omega arith) in
-    let digits = c.fill-digits.ensures.page ∙ padded_decimal (length (take (c.args.len - 1) (drop 1 (set page 0 45)))) m part (omega arith) in
+    let digits = c.fill_digits.ensures.page ∙ padded_decimal (length (take (c.args.len - 1) (drop 1 (set page 0 45)))) m part (omega arith) in
     ap (put_mid 1 (c.args.len - 1) (set page 0 45)) digits ∙ put_minus page (decimal m) c.args.len long (omega arith) ∙ ap (λ s. signed_spelling s m ++ drop c.args.len page) (sym sign)
 
 pub returns-else-minus : goal.returns-else-minus
@@ -22,5 +22,5 @@ returns-else-minus c =
     let long : c.args.len ≡ length (decimal m) = c.requires.0 ∙ ap (λ s. length (signed_spelling s m)) sign in
     let off : c.args.len - 0 ≡ c.args.len = omega arith in
     let part : length (take (c.args.len - 0) page) ≡ length (decimal m) = simp length-take (omega arith) in
-    let digits = c.fill-digits-else-minus.ensures.page ∙ padded_decimal (length (take (c.args.len - 0) page)) m part (omega arith) in
+    let digits = c.fill_digits-else-minus.ensures.page ∙ padded_decimal (length (take (c.args.len - 0) page)) m part (omega arith) in
     (λ i. digits i ++ post_of 0 (off i) page) ∙ ap (λ s. signed_spelling s m ++ drop c.args.len page) (sym sign)

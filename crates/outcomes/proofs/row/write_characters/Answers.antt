@@ -2,7 +2,7 @@ use Rattle.std.proofs.Common.{◌≡◌, [], ◌∷◌, sym, refl, ap, ◌∙◌
 use Rattle.std.proofs.Output.{has_written_of_eq, has_written_append}
 use Rattle.characters.specs.Decoding.{decoded}
 use Rattle.characters.specs.Left.{left}
-use Rattle.hex.specs.Hex.{hex_text}
+use Rattle.hex_texts.specs.Hex.{hex_text}
 use Rattle.outcomes.proofs.Streams.{streamed_none, streamed_more, streamed_all}
 use Rattle.outcomes.proofs.row.write_characters.Goals as goal
 

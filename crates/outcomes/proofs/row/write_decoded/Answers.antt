@@ -1,8 +1,8 @@
 use Rattle.std.proofs.Common.{◌≡◌, [], ◌∷◌, sym, refl, ap, ◌∙◌}
 use Rattle.std.proofs.Output.{has_written_of_eq, has_written_append}
-use Rattle.base64.specs.Base64.{decoded}
-use Rattle.base64.specs.Cursor.{left}
-use Rattle.hex.specs.Hex.{hex_text}
+use Rattle.base64_texts.specs.Base64.{decoded}
+use Rattle.base64_texts.specs.Cursor.{left}
+use Rattle.hex_texts.specs.Hex.{hex_text}
 use Rattle.outcomes.proofs.Streams.{streamed_none, streamed_more, streamed_all}
 use Rattle.outcomes.proofs.row.write_decoded.Goals as goal
 

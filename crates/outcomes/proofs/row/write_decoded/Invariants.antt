@@ -1,4 +1,4 @@
-use Rattle.base64.specs.Cursor.{left}
+use Rattle.base64_texts.specs.Cursor.{left}
 use Rattle.outcomes.proofs.Streams.{Streamed}
 use Rattle.outcomes.proofs.row.write_decoded.Given as goal
 

@@ -9,17 +9,17 @@ use Rattle.parts.proofs.tag.named_until.Goals as goal
 fronts : (bs : List ℕ) (n : ℕ) → n ≡ name_len bs → take (n - 0) bs ≡ take (name_len bs) bs
 fronts bs n e = let off : n - 0 ≡ n = omega arith in ap (λ k. take k bs) (off ∙ e)
 
-pub returns-in-err-name : goal.returns-in-err-name
-returns-in-err-name c =
+pub returns-in_err-name : goal.returns-in_err-name
+returns-in_err-name c =
     let bs = c.args.bytes.now in
-    let name = ap named (sym (fronts bs c.leading-of-len.result c.leading-of-len.ensures.value)) in
-    rw c.from-residual.ensures (name ∙ sym c.in-err-name.ensures.value)
+    let name = ap named (sym (fronts bs c.leading_of-len.result c.leading_of-len.ensures.value)) in
+    rw c.from_residual.ensures (name ∙ sym c.in_err-name.ensures.value)
 
 pub returns : goal.returns
 returns c =
     let bs = c.args.bytes.now in
-    let n = c.leading-of-len.result in
-    let name = ap named (sym (fronts bs n c.leading-of-len.ensures.value)) in
+    let n = c.leading_of-len.result in
+    let name = ap named (sym (fronts bs n c.leading_of-len.ensures.value)) in
     let rest = take_rest bs n in
-    let blanks : c.leading-of.result ≡ prefix_len is_blank (drop (name_len bs) bs) = c.leading-of.ensures.value ∙ ap (prefix_len is_blank) (rest ∙ ap (λ k. drop k bs) c.leading-of-len.ensures.value) in
-    (name ∙ sym c.in-ok-name.ensures.value, omega (arith, c.leading-of-len.ensures.value, blanks), omega (arith, c.leading-of.ensures.bound, ap length rest, length-drop n bs, c.leading-of-len.ensures.bound))
+    let blanks : c.leading_of.result ≡ prefix_len is_blank (drop (name_len bs) bs) = c.leading_of.ensures.value ∙ ap (prefix_len is_blank) (rest ∙ ap (λ k. drop k bs) c.leading_of-len.ensures.value) in
+    (name ∙ sym c.in_ok-name.ensures.value, omega (arith, c.leading_of-len.ensures.value, blanks), omega (arith, c.leading_of.ensures.bound, ap length rest, length-drop n bs, c.leading_of-len.ensures.bound))

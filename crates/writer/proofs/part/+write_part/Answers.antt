@@ -19,8 +19,8 @@ none_put page at k small = put_none page at small
 pub row-requires : goal.row-requires
 row-requires g t c κs = λ h. h
 
-pub returns-in-default : goal.returns-in-default
-returns-in-default g t c = record {
+pub returns-in_default : goal.returns-in_default
+returns-in_default g t c = record {
   rows = omega arith;
   part = λ n rest counts e. absurd (omega (arith, (begins (g.M.Held.said c.args.held.now) rest c.args.i n e).inside, c.in-default.ensures.told));
 }

@@ -1,5 +1,5 @@
 use Rattle.std.proofs.Common.{◌≡◌, ◌^◌, ◌<◌, [], ◌∷◌, ◌++◌, sym, refl, ap, ◌∙◌, subst, arith}
-use Rattle.base64.specs.Base64.{base64_spelling}
+use Rattle.base64_texts.specs.Base64.{base64_spelling}
 use Rattle.held.specs.Texts.{left}
 use Rattle.writer.specs.Pages.{Put}
 use Rattle.writer.proofs.Groups.{group}

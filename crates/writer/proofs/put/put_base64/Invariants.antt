@@ -1,5 +1,5 @@
 use Rattle.std.proofs.Common.{◌≡◌, ℕ, List, ◌++◌, length}
-use Rattle.base64.specs.Base64.{base64_spelling}
+use Rattle.base64_texts.specs.Base64.{base64_spelling}
 use Rattle.held.specs.Texts.{left}
 use Rattle.writer.specs.Pages.{Put}
 use Rattle.writer.proofs.put.put_base64.Given as goal

@@ -15,8 +15,8 @@ pub returns : goal.returns
 returns c =
     let msg = c.args.self.now.message.now in
     let at = c.args.self.now.at in
-    let n = c.leading-of-len.result in
+    let n = c.leading_of-len.result in
     let rest = take_rest msg at in
-    let long : n ≡ prefix_len in_run (drop at msg) = c.leading-of-len.ensures.value ∙ ap (prefix_len in_run) rest in
+    let long : n ≡ prefix_len in_run (drop at msg) = c.leading_of-len.ensures.value ∙ ap (prefix_len in_run) rest in
     let off : n - 0 ≡ prefix_len in_run (drop at msg) = omega (arith, long) in
     record { same = refl; next = refl; place = refl; bytes = (λ i. take (off i) (rest i)); at = omega (arith, long) }

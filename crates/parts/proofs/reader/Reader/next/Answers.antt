@@ -13,24 +13,24 @@ unfolding parts_left
 returns-in-Run c =
     let msg = c.args.self.now.message.now in
     let at = c.args.self.now.at in
-    let after = c.cut-run.new.self in
+    let after = c.cut_run.new.self in
     let left : parts_by after.next after.at (drop after.at after.message.now) ≡ parts_at_tag after.at (drop after.at msg) =
-    (λ i. parts_by (c.cut-run.ensures.next i) after.at (drop after.at (c.cut-run.ensures.same i).now)) in
+    (λ i. parts_by (c.cut_run.ensures.next i) after.at (drop after.at (c.cut_run.ensures.same i).now)) in
     record {
-      same = c.cut-run.ensures.same;
+      same = c.cut_run.ensures.same;
       gives =
           ap (λ n. parts_by n at (drop at msg)) c.in-Run.is
-          ∙ at_run msg at after.at c.cut-run.ensures.at
-          ∙ (λ i. run (sym c.cut-run.ensures.place i) (sym c.cut-run.ensures.bytes i) then sym left i);
+          ∙ at_run msg at after.at c.cut_run.ensures.at
+          ∙ (λ i. run (sym c.cut_run.ensures.place i) (sym c.cut_run.ensures.bytes i) then sym left i);
       inside = λ h.
           let all = prefix_len-le-length in_run (drop at msg) in
           let long = length-drop at msg in
-          let same = ap (λ (m : Bor (List ℕ)). length m.now) c.cut-run.ensures.same in
-          let short = ap length c.cut-run.ensures.bytes ∙ length-take-le (prefix_len in_run (drop at msg)) (drop at msg) all in
-          (omega (arith, c.cut-run.ensures.at, same), omega (arith, short, c.cut-run.ensures.place));
+          let same = ap (λ (m : Bor (List ℕ)). length m.now) c.cut_run.ensures.same in
+          let short = ap length c.cut_run.ensures.bytes ∙ length-take-le (prefix_len in_run (drop at msg)) (drop at msg) all in
+          (omega (arith, c.cut_run.ensures.at, same), omega (arith, short, c.cut_run.ensures.place));
       borrows =
-          let long : prefix_len in_run (drop at msg) ≡ after.at - c.cut-run.result.place = omega (arith, c.cut-run.ensures.at, c.cut-run.ensures.place) in
-          c.cut-run.ensures.bytes ∙ (λ i. take (long i) (drop (sym c.cut-run.ensures.place i) (sym c.cut-run.ensures.same i).now));
+          let long : prefix_len in_run (drop at msg) ≡ after.at - c.cut_run.result.place = omega (arith, c.cut_run.ensures.at, c.cut_run.ensures.place) in
+          c.cut_run.ensures.bytes ∙ (λ i. take (long i) (drop (sym c.cut_run.ensures.place i) (sym c.cut_run.ensures.same i).now));
     }
 
 pub returns-in-EmptyRun : goal.returns-in-EmptyRun
@@ -47,7 +47,7 @@ returns-in-Close c =
     let at = c.args.self.now.at in
     record {
       same = refl;
-      gives = ap (λ n. parts_by n at (drop at msg)) c.in-Close.is ∙ ap (λ p. tag p (tags.Close c.in-Close.tag.name) then parts_from at (drop at msg)) (sym c.part-of.ensures.place);
+      gives = ap (λ n. parts_by n at (drop at msg)) c.in-Close.is ∙ ap (λ p. tag p (tags.Close c.in-Close.tag.name) then parts_from at (drop at msg)) (sym c.part_of.ensures.place);
       inside = λ h. (h, tt);
-      borrows = c.part-of.ensures.bytes ∙ ap (λ p. take (at - p) (drop p msg)) (sym c.part-of.ensures.place);
+      borrows = c.part_of.ensures.bytes ∙ ap (λ p. take (at - p) (drop p msg)) (sym c.part_of.ensures.place);
     }

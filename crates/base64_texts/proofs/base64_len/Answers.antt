@@ -1,0 +1,6 @@
+use Rattle.std.proofs.Common.{arith, rules}
+use Rattle.base64_texts.proofs.Groups.{length-spelling}
+use Rattle.base64_texts.proofs.base64_len.Goals as goal
+
+pub returns : goal.returns
+returns c = let e = length-spelling c.args.bytes.now in search rules

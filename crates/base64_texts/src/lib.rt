@@ -1,0 +1,273 @@
+// The text of a <base64> element: checking, decoding byte by byte, and the canonical spelling.
+ghost use Rattle.std.specs.Prelude.{◌≡◌, ◌%◌, ◌^◌, ◌<◌, ◌≤◌, true, false, ◌&&◌, [], ◌∷◌, ◌++◌, length, drop, Decides, MatchOption, MatchResult, ◌==◌, nat_le, slice_index};
+ghost use Rattle.std.specs.List.{prefix_len};
+ghost use Rattle.texts.specs.Bytes.{is_blank};
+ghost use Rattle.texts.specs.Pages.{Writes};
+ghost use Rattle.base64_texts.specs.Base64.{is_letter, is_pad, sextet, letter as letterOf, nonblank, sextets, padding, last_or, decoded, is_base64, base64_spelling, SpellsBytes};
+ghost use Rattle.base64_texts.specs.Cursor.{ahead, left as bytesLeft};
+ghost use Rattle.std.specs.Iterator.{at_most};
+
+use texts::Malformed;
+use texts::bytes::{Blank, Class};
+
+fn is_letter(byte: u8) -> bool
+    ensures { result ≡ is_letter byte }
+{
+    matches!(byte, b'A'..=b'Z' | b'a'..=b'z') || matches!(byte, b'0'..=b'9' | b'+' | b'/')
+}
+
+// What a letter of the alphabet is worth.
+fn worth(letter: u8) -> u8
+    ensures { result ≡ sextet letter }
+{
+    match letter {
+        b'A'..=b'Z' => letter - b'A',
+        b'a'..=b'z' => letter - b'a' + 26,
+        b'0'..=b'9' => letter - b'0' + 52,
+        b'+' => 62,
+        _ => 63,
+    }
+}
+
+// The same; nothing for any other byte.
+fn sextet_of(byte: u8) -> Option<u8>
+    ensures { MatchOption result (is_letter byte ≡ false) (λ s. (is_letter byte ≡ true) × (s ≡ sextet byte)) }
+{
+    if is_letter(byte) {
+        Some(worth(byte))
+    } else {
+        None
+    }
+}
+
+// The letter worth `value`.
+fn letter(value: u8) -> u8
+    requires { value < 64 }
+    ensures { result ≡ letterOf value }
+{
+    match value {
+        0..26 => value + b'A',
+        26..52 => value - 26 + b'a',
+        52..62 => value - 52 + b'0',
+        62 => b'+',
+        _ => b'/',
+    }
+}
+
+// The letters at the front of a text: how many, what the last is worth, and where they end.
+#[derive(Drop)]
+struct Front {
+    count: usize,
+    last: u8,
+    end: usize,
+}
+
+fn front_of(text: &[u8]) -> Front
+    ensures count { result.count ≡ length (sextets text.now) }
+    ensures last { result.last ≡ last_or 0 (sextets text.now) }
+    ensures rest { nonblank (drop result.end text.now) ≡ padding text.now }
+    ensures within { (result.count ≤ result.end) × (result.end ≤ length text.now) }
+{
+    let mut count = 0;
+    let mut last = b'A';
+    let mut end = 0;
+    while end < text.len() {
+        let byte = text[end];
+        if is_letter(byte) {
+            count += 1;
+            last = byte;
+        } else if !Blank::has(byte) {
+            break;
+        }
+        end += 1;
+    }
+    Front {
+        count,
+        last: worth(last),
+        end,
+    }
+}
+
+// How many `=` a text holds, where it holds nothing else but blanks.
+fn pads_of(text: &[u8]) -> Option<usize>
+    ensures { MatchOption result (prefix_len is_pad (nonblank text.now) < length (nonblank text.now)) (λ n. (prefix_len is_pad (nonblank text.now) ≡ length (nonblank text.now)) × (n ≡ length (nonblank text.now)) × (n ≤ length text.now)) }
+{
+    let mut pads = 0;
+    for byte in text {
+        if *byte == b'=' {
+            pads += 1;
+        } else if !Blank::has(*byte) {
+            return None;
+        }
+    }
+    Some(pads)
+}
+
+// Whether the bits of the last sextet that the `=` leave unused are zero; nothing goes with more than two `=`.
+fn ends_well(last: u8, pads: usize) -> bool
+    ensures { result ≡ (nat_le pads 2 && last % (4 ^ pads) == 0) }
+{
+    match pads {
+        0 => true,
+        1 => last % 4 == 0,
+        2 => last % 16 == 0,
+        _ => false,
+    }
+}
+
+// How many bytes a base64 text stands for.
+pub fn check_base64(text: &[u8]) -> Result<usize, Malformed>
+    ensures verdict { MatchResult result (λ n. (is_base64 text.now ≡ true) × (n ≡ length (decoded text.now))) (λ _. is_base64 text.now ≡ false) }
+    ensures spells { Decides (is_base64 text.now) (SpellsBytes text.now) }
+    ensures canonical { is_base64 text.now ≡ true → base64_spelling (decoded text.now) ≡ nonblank text.now }
+{
+    let Front { count, last, end } = front_of(text);
+    let Some(pads) = pads_of(&text[end..text.len()]) else {
+        return Err(Malformed);
+    };
+    if (count + pads) % 4 != 0 || !ends_well(last, pads) {
+        return Err(Malformed);
+    }
+    Ok(count / 4 * 3 + count % 4 * 3 / 4)
+}
+
+// The bits of the last sextet read that belong to the next byte: its low four, or its low two.
+#[derive(Clone, Copy)]
+enum Held {
+    Nothing,
+    Four(u8),
+    Two(u8),
+}
+
+// Gives the bytes that a text stands for, one after another, up to the first byte that is neither letter nor blank.
+#[derive(Drop)]
+pub struct Decoded<'a> {
+    text: &'a [u8],
+    at: usize,
+    held: Held,
+}
+
+// Where the next byte that is no blank stands.
+fn skip_blanks(text: &[u8], from: usize) -> usize
+    ensures same { sextets (drop result text.now) ≡ sextets (drop from text.now) }
+    ensures shown { result < length text.now → is_blank (slice_index text.now result) ≡ false }
+{
+    let mut at = from;
+    while at < text.len() && Blank::has(text[at]) {
+        at += 1;
+    }
+    at
+}
+
+impl<'a> Decoded<'a> {
+    pub fn new(text: &'a [u8]) -> Decoded<'a>
+        ensures { bytesLeft result ≡ decoded text.now }
+    {
+        Decoded {
+            text,
+            at: 0,
+            held: Held::Nothing,
+        }
+    }
+
+    // Reads the next letter.
+    fn next_sextet(&mut self) -> Option<u8>
+        ensures sextets { MatchOption result ((ahead self.old ≡ []) × (ahead self.new ≡ [])) (λ s. (s < 64) × (ahead self.old ≡ s ∷ ahead self.new)) }
+        ensures held { self.new.held ≡ self.old.held }
+    {
+        let text = self.text;
+        let at = skip_blanks(text, self.at);
+        self.at = at;
+        if at >= text.len() {
+            return None;
+        }
+        let value = sextet_of(text[at])?;
+        self.at = at + 1;
+        Some(value)
+    }
+}
+
+impl<'a> Iterator for Decoded<'a> {
+    type Item = u8;
+
+    ghost next_gives = { λ before r after. MatchOption r ((bytesLeft before ≡ []) × (bytesLeft after ≡ [])) (λ b. bytesLeft before ≡ b ∷ bytesLeft after) };
+
+    ghost remaining = { λ d. at_most (length (bytesLeft d)) };
+
+    fn next(&mut self) -> Option<u8> {
+        let value = self.next_sextet()?;
+        match self.held {
+            Held::Nothing => {
+                let second = self.next_sextet()?;
+                self.held = Held::Four(second);
+                Some(value * 4 + second / 16)
+            }
+            Held::Four(before) => {
+                self.held = Held::Two(value);
+                Some(before % 16 * 16 + value / 4)
+            }
+            Held::Two(before) => {
+                self.held = Held::Nothing;
+                Some(before % 4 * 64 + value)
+            }
+        }
+    }
+}
+
+// How long the spelling of these bytes is.
+pub fn base64_len(bytes: &[u8]) -> usize
+    ensures { result ≡ length (base64_spelling bytes.now) }
+{
+    bytes.len().div_ceil(3) * 4
+}
+
+// The four characters that stand for the first three bytes, or for the last one or two.
+fn quad(bytes: &[u8]) -> [u8; 4]
+    requires { 0 < length bytes.now }
+    ensures { base64_spelling bytes.now ≡ result ++ base64_spelling (drop 3 bytes.now) }
+{
+    match bytes {
+        [a, b, c, ..] => [
+            letter(*a / 4),
+            letter(*a % 4 * 16 + *b / 16),
+            letter(*b % 16 * 4 + *c / 64),
+            letter(*c % 64),
+        ],
+        [a, b] => [
+            letter(*a / 4),
+            letter(*a % 4 * 16 + *b / 16),
+            letter(*b % 16 * 4),
+            b'=',
+        ],
+        [a] => [letter(*a / 4), letter(*a % 4 * 16), b'=', b'='],
+        [] => unreachable(),
+    }
+}
+
+// Writes the spelling of the bytes at the front of a page that has room for it.
+fn spell(bytes: &[u8], page: &mut [u8])
+    requires { length (base64_spelling bytes.now) ≤ length page.old }
+    ensures { page.new ≡ base64_spelling bytes.now ++ drop (length (base64_spelling bytes.now)) page.old }
+{
+    let mut from = 0;
+    let mut to = 0;
+    while from < bytes.len() {
+        let group = quad(&bytes[from..bytes.len()]);
+        page[to..to + 4].copy_from_slice(&group);
+        from += 3;
+        to += 4;
+    }
+}
+
+// Writes the canonical spelling of the bytes at the front of the page, or nothing where it does not fit.
+pub fn write_base64(bytes: &[u8], page: &mut [u8]) -> Option<usize>
+    ensures writes { Writes (base64_spelling bytes.now) page.old page.new result }
+    ensures reads_back { (is_base64 (base64_spelling bytes.now) ≡ true) × (decoded (base64_spelling bytes.now) ≡ bytes.now) }
+{
+    let len = base64_len(bytes);
+    if len > page.len() {
+        return None;
+    }
+    spell(bytes, page);
+    Some(len)
+}
