@@ -1,9 +1,8 @@
 -- Groups of sextets and of bytes: how long they are, and that packing and spelling undo one another.
-use Rattle.std.proofs.Common.{◌≡◌, ℕ, zero, suc, ◌+◌, ◌-◌, ◌*◌, ◌/◌, ◌%◌, ◌^◌, ◌<◌, ◌≤◌, Bool, true, false, cond, not, ◌&&◌, eqb, leb, List, [], ◌∷◌, ◌++◌, map, length, get_or, take, drop, replicate, Decides, filter, sym, refl, ap, ◌∙◌, subst, arith}
+use Rattle.std.proofs.Common.{◌≡◌, ℕ, ◌+◌, ◌*◌, ◌/◌, ◌%◌, ◌^◌, ◌<◌, ◌≤◌, Bool, true, false, cond, ◌&&◌, eqb, leb, List, [], ◌∷◌, ◌++◌, map, length, get_or, take, drop, replicate, Decides, sym, refl, ap, ◌∙◌, subst, arith}
 use Rattle.std.specs.List.{prefix_len, AllByRecursion as All}
 use Rattle.std.proofs.lemmas.List.{take-append-drop, length-append, length-map}
 use Rattle.std.proofs.lemmas.Bool.Decides.{nat_tests}
-use Rattle.texts.specs.Bytes.{is_blank}
 use Rattle.std.proofs.lemmas.Bool.{eqb-true}
 use Rattle.base64_texts.proofs.Scan.{front_yes, front_no, sextets_letter, padding_letter}
 use Rattle.base64_texts.specs.Base64.{is_letter, is_pad, sextet, letter, nonblank, letters, padding, sextets, last_or, packed, decoded, is_base64, base64_spelling, SpellsBytes}

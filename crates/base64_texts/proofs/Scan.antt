@@ -1,10 +1,10 @@
 -- A text read byte by byte: what one more byte in front does to its letters and its padding.
-use Rattle.std.proofs.Common.{◌≡◌, ℕ, suc, ◌+◌, ◌-◌, ◌<◌, ◌≤◌, Bool, true, false, cond, not, List, [], ◌∷◌, map, length, get_or, take, drop, filter, sym, refl, ap, ◌∙◌, subst, one-add, arith}
+use Rattle.std.proofs.Common.{◌≡◌, ℕ, ◌+◌, ◌<◌, ◌≤◌, Bool, true, false, cond, List, [], ◌∷◌, map, length, get_or, take, drop, sym, ap, ◌∙◌, one-add, arith}
 use Rattle.std.specs.List.{prefix_len}
 use Rattle.std.proofs.lemmas.Bool.Decides.{nat_tests}
 use Rattle.texts.specs.Bytes.{is_blank}
 use Rattle.std.proofs.lemmas.List.{drop_more, drop_all}
-use Rattle.base64_texts.specs.Base64.{is_letter, is_pad, sextet, nonblank, letters, padding, sextets, last_or}
+use Rattle.base64_texts.specs.Base64.{is_letter, is_pad, sextet, nonblank, padding, sextets, last_or}
 
 -- no letter is a blank
 pub letter_shown : (b : ℕ) → is_letter b ≡ true → is_blank b ≡ false

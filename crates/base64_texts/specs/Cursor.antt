@@ -1,5 +1,5 @@
 -- What a cursor over a base64 text has still to give.
-use Rattle.std.specs.Prelude.{ℕ, List, [], ◌∷◌, drop}
+use Rattle.std.specs.Prelude.{ℕ, List, ◌∷◌, drop}
 use Rattle.base64_texts.specs.Base64.{packed, sextets}
 use Rattle.base64_texts.specs.declared.Decoded.{Decoded}
 use Rattle.base64_texts.specs.declared.Held.{Held}

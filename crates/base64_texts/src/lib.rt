@@ -1,4 +1,6 @@
 // The text of a <base64> element: checking, decoding byte by byte, and the canonical spelling.
+#![tactic(auto)]
+
 ghost use Rattle.std.specs.Prelude.{◌≡◌, ◌%◌, ◌^◌, ◌<◌, ◌≤◌, true, false, ◌&&◌, [], ◌∷◌, ◌++◌, length, drop, Decides, MatchOption, MatchResult, ◌==◌, nat_le, slice_index};
 ghost use Rattle.std.specs.List.{prefix_len};
 ghost use Rattle.texts.specs.Bytes.{is_blank};

@@ -1,4 +1,6 @@
 // The character data of strings and member names: read with its references, and written in canonical form.
+#![tactic(auto)]
+
 mod check;
 mod compare;
 mod cursor;

@@ -1,5 +1,5 @@
 -- A text that is a date is the spelling of its moment, and the spelling of a moment reads as that moment.
-use Rattle.std.proofs.Common.{◌≡◌, ℕ, ◌+◌, ◌-◌, ◌*◌, ◌/◌, ◌%◌, ◌<◌, ◌≤◌, Bool, true, false, cond, ◌&&◌, eqb, leb, List, [], ◌∷◌, ◌++◌, length, get_or, Some, None, Option, sym, refl, ap, ◌∙◌, ⊎_elim, arith}
+use Rattle.std.proofs.Common.{◌≡◌, ℕ, ◌+◌, ◌-◌, ◌*◌, ◌/◌, ◌%◌, ◌≤◌, Bool, true, false, ◌&&◌, eqb, leb, List, [], ◌∷◌, ◌++◌, length, get_or, Some, None, sym, refl, ap, ◌∙◌, ⊎_elim, arith}
 use Rattle.std.specs.List.{AllByRecursion as All}
 use Rattle.std.proofs.ByRecursion.{All-append, All-weaker}
 use Rattle.std.proofs.lemmas.Slice.Eq.{text_from_reads}
@@ -9,8 +9,8 @@ use Rattle.texts.specs.Bytes.{is_blank, unblanked}
 use Rattle.texts.specs.Digits.{is_digit, padded}
 use Rattle.texts.proofs.Bare.{unblanked_bare, digit_bare}
 use Rattle.texts.proofs.Numerals.{all_padded}
-use Rattle.dates.specs.Calendar.{every, is_day, days_in}
-use Rattle.dates.specs.Moments.{Moment, is_moment, are_digits, two, is_shaped, moment_at, plain_date, date_of, date_spelling}
+use Rattle.dates.specs.Calendar.{every, days_in}
+use Rattle.dates.specs.Moments.{Moment, is_moment, are_digits, is_shaped, moment_at, plain_date, date_of, date_spelling}
 
 every_all : (tests : List Bool) → every tests ≡ true → All (λ t. t ≡ true) tests
 every_all [] h = tt

@@ -1,8 +1,8 @@
 -- What a double's text reads as has at most 18 digits and no trailing zero in its fraction.
-use Rattle.std.proofs.Common.{◌≡◌, ℕ, zero, suc, ◌+◌, ◌-◌, ◌*◌, ◌%◌, ◌^◌, ◌<◌, ◌≤◌, Bool, true, false, cond, ◌&&◌, ◌||◌, eqb, leb, ◌⊎◌, List, [], ◌∷◌, ◌++◌, reverse, length, get_or, take, drop, ℤ, pos, neg_ℤ, nat_abs, Some, None, Option, sym, refl, ap, ◌∙◌, subst, inl, inr, ⊎_elim, append_assoc, pow-suc, arith, length-append, length-take}
+use Rattle.std.proofs.Common.{◌≡◌, ℕ, zero, suc, ◌+◌, ◌-◌, ◌*◌, ◌%◌, ◌^◌, ◌<◌, ◌≤◌, Bool, true, false, ◌&&◌, ◌||◌, eqb, leb, List, [], ◌∷◌, ◌++◌, reverse, length, get_or, take, drop, ℤ, nat_abs, Some, None, Option, sym, refl, ap, ◌∙◌, subst, ⊎_elim, append_assoc, pow-suc, arith, length-append, length-take}
 use native.Mathlib.Nat.{pow-le-pow_right}
-use Rattle.std.specs.List.{prefix_len, suffix_len, AllByRecursion as All}
-use Rattle.std.proofs.ByRecursion.{All-append, All-take, All-drop, All-get_or}
+use Rattle.std.specs.List.{prefix_len, suffix_len}
+use Rattle.std.proofs.ByRecursion.{All-append, All-take, All-drop}
 use Rattle.std.proofs.lemmas.List.{get_or-reverse, length-reverse, take_all, take_more}
 use Rattle.std.proofs.lemmas.List.Sums.{suffix_len-le-length}
 use Rattle.std.proofs.lemmas.Bool.{le-leb, leb-true, eq-eqb, eqb-true, and_from, and_parts, or_left, or_right, or_cases, cond-true, cond-false, cases_Bool, cases_lt}

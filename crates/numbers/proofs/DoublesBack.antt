@@ -1,7 +1,7 @@
 -- The spelling of a double: how long it is, and that it reads as that double.
-use Rattle.std.proofs.Common.{◌≡◌, ℕ, zero, suc, ◌+◌, ◌-◌, ◌*◌, ◌/◌, ◌%◌, ◌^◌, ◌<◌, ◌≤◌, max, Bool, true, false, cond, ◌&&◌, ◌||◌, eqb, leb, ◌⊎◌, List, [], ◌∷◌, ◌++◌, length, get_or, take, drop, set, ℤ, pos, negsuc, nat_abs, Some, None, decimal, Option, sym, refl, ap, ◌∙◌, subst, inl, inr, ⊎_elim, append_assoc, pow-suc, div-le_self, div-one, arith, length-append, length-drop}
+use Rattle.std.proofs.Common.{◌≡◌, ℕ, zero, suc, ◌+◌, ◌-◌, ◌*◌, ◌/◌, ◌%◌, ◌^◌, ◌<◌, ◌≤◌, max, Bool, true, false, cond, ◌&&◌, ◌||◌, eqb, leb, ◌⊎◌, List, [], ◌∷◌, ◌++◌, length, take, drop, set, ℤ, pos, negsuc, nat_abs, Some, None, decimal, Option, sym, refl, ap, ◌∙◌, subst, inl, inr, ⊎_elim, append_assoc, pow-suc, div-le_self, div-one, arith, length-append, length-drop}
 use native.Mathlib.Nat.{mod-add-div'}
-use borrow.Rule.Slice.PartMut.{put_mid, post_of}
+use borrow.Rule.Slice.PartMut.{put_mid}
 use Rattle.std.specs.List.{prefix_len, suffix_len, AllByRecursion as All}
 use Rattle.std.proofs.lemmas.Nat.{div_below, pow-add}
 use Rattle.std.proofs.lemmas.Fmt.{decimal_digit, decimal_nonempty, length-decimal-le}
@@ -9,7 +9,7 @@ use Rattle.std.proofs.ByRecursion.{All-append, All-weaker}
 use Rattle.std.proofs.lemmas.List.{get_or_append_left, take_at, drop_at, take_all, length_push}
 use Rattle.std.proofs.lemmas.Bool.{le-leb, le-ltb, leb-true, eq-eqb, ne_eqb, and_from, and_parts, or_cases, or_right, eqb-true, cond-true, cond-false, cases_Bool, cases_lt}
 use Rattle.std.proofs.lemmas.Bool.Decides.{nat_tests}
-use Rattle.texts.specs.Bytes.{is_blank, unblanked}
+use Rattle.texts.specs.Bytes.{is_blank}
 use Rattle.texts.specs.Digits.{is_digit, worth, worth_after, padded}
 use Rattle.texts.proofs.Bare.{unblanked_bare, digit_bare}
 use Rattle.texts.proofs.Fronts.{leading_all, leading_stops, ending_none}
@@ -17,7 +17,7 @@ use Rattle.texts.proofs.Numerals.{all_decimal, all_padded, decimal_worth, length
 use Rattle.texts.proofs.Written.{put_byte, put_text}
 use Rattle.numbers.specs.Signs.{is_minus, after_sign, signed, signed_spelling, is_negative}
 use Rattle.numbers.specs.Ints.{is_numeral}
-use Rattle.numbers.specs.Doubles.{is_zero, AllDigits, whole, behind, fraction, is_fraction, counted_whole, counted_fraction, counted, is_plain_double, signed_double, plain_double, double_of, fraction_spelling, double_spelling, is_double}
+use Rattle.numbers.specs.Doubles.{is_zero, AllDigits, whole, behind, fraction, is_fraction, counted_whole, counted_fraction, counted, signed_double, plain_double, double_of, fraction_spelling, double_spelling, is_double}
 use Rattle.numbers.proofs.IntsBack.{first_digit, no_sign, all_signed}
 
 -- a number is its magnitude with its sign

@@ -1,11 +1,11 @@
 -- The spelling of an int reads as that int.
-use Rattle.std.proofs.Common.{◌≡◌, ℕ, zero, suc, ◌+◌, ◌-◌, ◌^◌, ◌<◌, ◌≤◌, Bool, true, false, cond, ◌&&◌, eqb, leb, List, [], ◌∷◌, ◌++◌, length, get_or, ℤ, pos, negsuc, nat_abs, Some, None, decimal, Option, sym, refl, ap, ◌∙◌, subst, arith, w32, SFits}
-use Rattle.std.specs.List.{prefix_len, AllByRecursion as All}
+use Rattle.std.proofs.Common.{◌≡◌, ℕ, suc, ◌^◌, ◌<◌, ◌≤◌, Bool, true, false, ◌&&◌, eqb, leb, List, length, get_or, ℤ, pos, negsuc, Some, decimal, refl, ap, ◌∙◌, arith, w32, SFits}
+use Rattle.std.specs.List.{AllByRecursion as All}
 use Rattle.std.proofs.lemmas.Fmt.{decimal_nonempty}
 use Rattle.std.proofs.ByRecursion.{All-get_or, All-weaker}
 use Rattle.std.proofs.lemmas.Bool.{le-leb, le-ltb, eq-eqb, and_from, cond-true}
 use Rattle.std.proofs.lemmas.Bool.Decides.{nat_tests}
-use Rattle.texts.specs.Bytes.{is_blank, unblanked}
+use Rattle.texts.specs.Bytes.{is_blank}
 use Rattle.texts.specs.Digits.{is_digit, worth}
 use Rattle.texts.proofs.Bare.{unblanked_bare, digit_bare}
 use Rattle.texts.proofs.Fronts.{leading_all}

@@ -1,5 +1,5 @@
 -- Doubles: an optional sign, one or more digits, and optionally a point and one or more digits.
-use Rattle.std.specs.Prelude.{◌≡◌, ℕ, ◌+◌, ◌-◌, ◌/◌, ◌%◌, ◌^◌, max, Bool, true, false, cond, ◌&&◌, ◌||◌, List, [], ◌∷◌, ◌++◌, length, take, drop, ℤ, Some, None, Option, ◌==◌, nat_le, slice_index, unsigned_abs}
+use Rattle.std.specs.Prelude.{◌≡◌, ℕ, ◌+◌, ◌-◌, ◌/◌, ◌%◌, ◌^◌, max, Bool, true, cond, ◌&&◌, ◌||◌, List, ◌∷◌, ◌++◌, length, take, drop, ℤ, Some, None, Option, ◌==◌, nat_le, slice_index, unsigned_abs}
 use Rattle.std.specs.List.{prefix_len, suffix_len, AllByRecursion as All}
 use Rattle.texts.specs.Bytes.{within, unblanked}
 use Rattle.texts.specs.Digits.{is_digit, worth, padded}

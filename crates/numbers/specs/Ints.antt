@@ -1,5 +1,5 @@
 -- Ints: an optional sign and one or more digits, blanks round them, in the range of 32 bits.
-use Rattle.std.specs.Prelude.{ℕ, Bool, true, false, cond, ◌&&◌, List, length, ℤ, Some, None, Option, ◌==◌, nat_le, unsigned_abs}
+use Rattle.std.specs.Prelude.{ℕ, Bool, cond, ◌&&◌, List, length, ℤ, Some, None, Option, ◌==◌, nat_le, unsigned_abs}
 use Rattle.std.specs.List.{prefix_len}
 use Rattle.texts.specs.Bytes.{unblanked}
 use Rattle.texts.specs.Digits.{is_digit, worth}

@@ -1,4 +1,6 @@
 // The texts of numbers: ints and doubles.
+#![tactic(auto)]
+
 pub mod doubles;
 pub mod ints;
 mod signs;

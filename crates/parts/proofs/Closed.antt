@@ -1,8 +1,8 @@
 -- Looking for the first `?>`, byte by byte.
-use Rattle.std.proofs.Common.{◌≡◌, ℕ, ◌+◌, ◌<◌, ◌≤◌, Bool, true, false, cond, ◌&&◌, eqb, List, [], ◌∷◌, length, get_or, drop, Some, None, Option, sym, refl, ap, ◌∙◌, ⊎_elim, add-zero, arith}
+use Rattle.std.proofs.Common.{◌≡◌, ℕ, ◌+◌, ◌<◌, ◌≤◌, Bool, true, false, cond, ◌&&◌, eqb, List, length, get_or, drop, Some, None, Option, refl, ap, ◌∙◌, ⊎_elim, add-zero, arith}
 use Rattle.std.specs.Option.{option_map}
 use Rattle.std.proofs.lemmas.List.{drop_more, drop_all, get_or-drop, get_or_past}
-use Rattle.std.proofs.lemmas.Bool.{cond-true, cond-false, eq-eqb, ne_eqb, and_from, and_right, cases_lt}
+use Rattle.std.proofs.lemmas.Bool.{cond-true, cond-false, ne_eqb, and_right, cases_lt}
 use Rattle.parts.specs.Declarations.{is_declared, through_close, declaration_len}
 
 -- whether the two bytes at a place are `?>`

@@ -1,5 +1,5 @@
 -- Laws of the spellings.
-use Rattle.std.proofs.Common.{◌≡◌, ℕ, Bool, true, false, cond, List, Some, None, Option, sym, refl, ap, ◌∙◌, ⊎_elim}
+use Rattle.std.proofs.Common.{◌≡◌, ℕ, List, Some, None, sym, refl, ap, ◌∙◌, ⊎_elim}
 use Rattle.parts.specs.declared.name.Name.{Name}
 use Rattle.parts.specs.declared.name.Name.TheVariants.{MethodCall, MethodResponse, MethodName, Params, Param, Value, Fault, Struct, Member, MemberName, Array, Data, Int, I4, Boolean, String, Double, DateTime, Base64}
 use Rattle.std.specs.Str.{bytes_eq}

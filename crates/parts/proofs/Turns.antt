@@ -1,5 +1,5 @@
 -- What is left of a message before and after a part is cut off.
-use Rattle.std.proofs.Common.{◌≡◌, ℕ, zero, suc, ◌+◌, ◌*◌, ◌<◌, ◌≤◌, Bool, true, false, cond, ◌⊎◌, List, [], ◌∷◌, length, get_or, drop, Some, None, Ok, Option, sym, refl, ap, ◌∙◌, subst, inl, inr, ⊎_elim, arith}
+use Rattle.std.proofs.Common.{◌≡◌, ℕ, zero, suc, ◌+◌, ◌*◌, ◌<◌, ◌≤◌, Bool, true, false, ◌⊎◌, List, [], ◌∷◌, length, drop, Some, None, Ok, Option, sym, ap, ◌∙◌, subst, inl, inr, ⊎_elim, arith}
 use Rattle.std.specs.List.{prefix_len}
 use Rattle.std.proofs.lemmas.List.{drop_more, drop_all, drop-drop}
 use Rattle.std.proofs.lemmas.Bool.{cond-true, cond-false, cases_Bool}
@@ -10,7 +10,7 @@ use Rattle.parts.specs.declared.reader.Next.{Next}
 use Rattle.parts.specs.declared.reader.Next.TheVariants as next
 use Rattle.parts.specs.declared.tag.Spelling.{Spelling}
 use Rattle.parts.specs.Tags.{element_of, tag_of}
-use Rattle.parts.specs.Cutting.{Parts, run, tag, ends, broken, ◌then◌, part_count, in_run, run_at, emptied, tagged, behind_run, parts_from, parts_at_tag}
+use Rattle.parts.specs.Cutting.{run, tag, ends, broken, ◌then◌, part_count, in_run, run_at, emptied, tagged, behind_run, parts_from, parts_at_tag}
 use Rattle.parts.specs.Readers.{piece_of, parts_by, RunInside}
 use Rattle.parts.proofs.Walk.{parts_are}
 

@@ -1,10 +1,10 @@
 -- The parts of bytes: a run, and then what the `<` behind it begins.
-use Rattle.std.proofs.Common.{◌≡◌, ℕ, zero, suc, ◌+◌, Bool, true, false, cond, not, List, [], ◌∷◌, length, drop, Some, None, Option, sym, refl, ap, ◌∙◌, ⊎_elim, add-zero, arith}
+use Rattle.std.proofs.Common.{◌≡◌, ℕ, zero, suc, ◌+◌, List, [], ◌∷◌, drop, Some, None, Option, sym, refl, ap, ◌∙◌, ⊎_elim, add-zero, arith}
 use Rattle.std.specs.List.{prefix_len}
 use Rattle.std.proofs.lemmas.Bool.{cond-true, cond-false, cases_Bool}
 use Rattle.parts.specs.declared.tag.Spelling.{Spelling}
 use Rattle.parts.specs.Tags.{tag_of}
-use Rattle.parts.specs.Cutting.{Parts, run, tag, ends, broken, ◌then◌, in_run, run_at, emptied, tagged, behind_run, parts_from, parts_at_tag}
+use Rattle.parts.specs.Cutting.{run, tag, ◌then◌, in_run, run_at, emptied, tagged, behind_run, parts_from, parts_at_tag}
 
 -- bytes that belong to a tag are passed over
 behind_skip : (p k : ℕ) (bs : List ℕ) → behind_run p k bs ≡ behind_run (p + k) 0 (drop k bs)

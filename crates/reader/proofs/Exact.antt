@@ -1,14 +1,14 @@
 -- A whole message is read exactly when the grammar derives it.
-use Rattle.std.proofs.Common.{◌≡◌, ℕ, ◌<◌, ◌≤◌, Bool, true, false, eqb, ltb, List, [], map, length, drop, Some, None, Ok, Err, Option, Result, sym, refl, ap, ◌∙◌, subst, ⊎_elim, arith}
-use Rattle.std.specs.List.{prefix_len, AllByRecursion as All}
+use Rattle.std.proofs.Common.{◌≡◌, ℕ, ◌≤◌, true, false, eqb, ltb, List, [], map, length, drop, Some, None, Ok, Err, Option, Result, sym, refl, ap, ◌∙◌, subst, ⊎_elim, arith}
+use Rattle.std.specs.List.{prefix_len}
 use Rattle.std.proofs.lemmas.List.Sums.{prefix_len-le-length}
 use Rattle.std.proofs.lemmas.Bool.{cases_Bool, ltb-true, ltb-false, eqb-true, eqb-false, eq-eqb}
 use Rattle.wire.specs.declared.row.Row.{Row}
 use Rattle.wire.specs.declared.refusal.Refusal.{Refusal}
-use Rattle.wire.specs.Trees.{Message, message_rows}
+use Rattle.wire.specs.Trees.{Message}
 use Rattle.characters.specs.References.{is_character, all_characters}
 use Rattle.characters.proofs.Leading.{all_from_test, test_from_all}
-use Rattle.parts.specs.Cutting.{Parts, parts_from}
+use Rattle.parts.specs.Cutting.{parts_from}
 use Rattle.parts.specs.Declarations.{declaration_len}
 use Rattle.parts.proofs.OneWay.{one_way}
 use Rattle.table.specs.declared.mode.Mode.TheVariants.{Start, Finished}

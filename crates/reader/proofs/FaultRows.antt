@@ -1,8 +1,8 @@
 -- The rows of a fault's value tell whether it is as asked.
-use Rattle.std.proofs.Common.{◌≡◌, ℕ, ◌+◌, ◌≤◌, List, [], ◌∷◌, ◌++◌, length, get_or, ℤ, codes, sym, refl, ap, ◌∙◌, subst, arith}
+use Rattle.std.proofs.Common.{◌≡◌, ℕ, ◌+◌, ◌≤◌, List, ◌∷◌, ◌++◌, length, get_or, ℤ, codes, sym, refl, ap, ◌∙◌, subst, arith}
 use Rattle.wire.specs.declared.kind.Kind.TheVariants as kinds
 use Rattle.wire.specs.Kinds.{kind_number}
-use Rattle.wire.specs.Trees.{Content, Value, Members, Values, int, boolean, string, double, date, base64, struct, array, none, member, end, value, value_rows, members_rows, values_rows, holder_row}
+use Rattle.wire.specs.Trees.{Content, Value, Members, int, boolean, string, double, date, base64, struct, array, none, member, end, value, value_rows, members_rows, values_rows, holder_row}
 use Rattle.reader.specs.Faults.{FaultValue, Pair, code_first, string_first}
 
 abbrev value_kind : Value → ℕ

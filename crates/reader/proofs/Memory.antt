@@ -1,5 +1,5 @@
 -- Reading into lent rows does what reading into a list of rows does.
-use Rattle.std.proofs.Common.{◌≡◌, ℕ, zero, suc, ◌+◌, ◌-◌, ◌<◌, ◌≤◌, Bool, true, false, cond, ltb, leb, List, [], ◌∷◌, ◌++◌, length, drop, set, Some, None, Ok, Err, Option, Result, sym, refl, ap, ◌∙◌, subst, arith}
+use Rattle.std.proofs.Common.{◌≡◌, ℕ, zero, suc, ◌+◌, ◌<◌, ◌≤◌, Bool, true, false, cond, List, [], ◌∷◌, length, drop, set, Some, None, Ok, Err, Option, Result, sym, refl, ap, ◌∙◌, subst, arith}
 use Rattle.wire.specs.declared.row.Row.{Row}
 use Rattle.wire.specs.declared.refusal.Refusal.{Refusal}
 use Rattle.wire.specs.Rows.{blank_row}
@@ -16,7 +16,7 @@ use Rattle.table.specs.declared.mode.Move.TheVariants as move
 use Rattle.table.specs.Entries.{lookup, entries}
 use Rattle.reader.specs.declared.frame.Frame.{Frame}
 use Rattle.reader.specs.Runs.{run_row, blank_run, span_at}
-use Rattle.reader.specs.Steps.{St, st, and_then, frame, inside_of, after_of, past_of, holder_row, room_for, leave, nest, unnest, named, faulted, act, step, is_finished, finish, judge, put_at}
+use Rattle.reader.specs.Steps.{St, st, and_then, frame, inside_of, after_of, past_of, holder_row, room_for, nest, act, is_finished, judge, put_at}
 use Rattle.reader.specs.Reading.{read_from, reading, Said, laid, rows_in}
 
 laid_put : (R mem : List Row) (i : ℕ) (r : Row) → i ≤ length R → laid (put_at R i r) mem ≡ set (laid R mem) i r

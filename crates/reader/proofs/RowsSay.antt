@@ -10,7 +10,6 @@ use Rattle.characters.specs.Decoding as characters
 use Rattle.characters.specs.Rule.{CharacterData}
 use Rattle.characters.proofs.Reading as reading
 use Rattle.parts.specs.Cutting.{Parts}
-use Rattle.reader.specs.Runs.{text_row}
 use Rattle.reader.specs.Contents.{content_of, InPlace}
 use Rattle.reader.specs.Grammar.{AValue, ATyped, AreMembers, AreValues, AreParams, MayBeParams, run_alone, typed, an_int, an_i4, a_boolean, a_string, a_double, a_date, a_base64, a_struct, an_array, no_member, a_member, no_value, a_value, no_param, a_param, without, with_params}
 use Rattle.reader.proofs.GoodRuns.{date_stands}

@@ -1,10 +1,10 @@
 -- Laws of the frames as a list, the innermost first.
-use Rattle.std.proofs.Common.{◌≡◌, ℕ, zero, suc, ◌+◌, ◌-◌, ◌<◌, ◌≤◌, ◌≢◌, List, [], ◌∷◌, length, get_or, set, sym, refl, ap, ◌∙◌, subst, inl, inr, ⊎_elim, add-one, arith}
+use Rattle.std.proofs.Common.{◌≡◌, ℕ, zero, suc, ◌+◌, ◌-◌, ◌<◌, ◌≤◌, ◌≢◌, List, ◌∷◌, length, get_or, set, sym, refl, ap, ◌∙◌, subst, ⊎_elim, add-one, arith}
 use Rattle.std.proofs.lemmas.List.{get_or-set_same, get_or-set_other}
 use Rattle.std.proofs.lemmas.Bool.{cases_eq}
 use Rattle.reader.specs.declared.frame.Frame.{Frame}
 use Rattle.wire.specs.declared.row.Row.{Row}
-use Rattle.reader.specs.Steps.{frame, leave, after_of, St, st}
+use Rattle.reader.specs.Steps.{frame, leave, after_of, st}
 use Rattle.reader.specs.Held.{no_frame, stack_of}
 
 -- a write past the open frames

@@ -1,7 +1,7 @@
 -- The grammar: which parts are a message, and its tree.
 -- Each relation says that parts begin with an element, which derives a tree, and go on with other parts.
 -- A run stands before every tag, and is blank where no text is named. At most d structs and arrays may still open.
-use Rattle.std.specs.Prelude.{◌≡◌, ℕ, suc, Bool, true, List, [], ℤ, Some}
+use Rattle.std.specs.Prelude.{◌≡◌, ℕ, suc, Bool, true, List, ℤ, Some}
 use Rattle.wire.specs.Trees.{Value, Members, Values, Message, int, boolean, string, double, date, base64, struct, array, none, member, end, value, call, response, fault}
 use Rattle.texts.specs.Booleans.{boolean_of}
 use Rattle.texts.specs.Methods.{is_method_name}

@@ -1,5 +1,5 @@
 -- Cases at the edges of the rules that the definitions are sure to give.
-use Rattle.std.specs.Prelude.{◌≡◌, ℕ, Bool, true, false, List, [], ◌∷◌, ℤ, pos, negsuc, Some, None, Err, codes, Option}
+use Rattle.std.specs.Prelude.{◌≡◌, ℕ, true, false, List, [], ◌∷◌, ℤ, pos, negsuc, Some, None, Err, codes}
 use Prim.Native.String.{String}
 use Rattle.std.specs.List.{AllByRecursion as All}
 use Rattle.wire.specs.declared.refusal.Refusal.{Refusal}

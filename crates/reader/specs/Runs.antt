@@ -1,5 +1,5 @@
 -- The row that a run gives, by where it stands and the tag behind it.
-use Rattle.std.specs.Prelude.{ℕ, ◌+◌, Bool, true, false, cond, List, length, ℤ, pos, Some, None, Ok, Err, Option, Result, ◌==◌}
+use Rattle.std.specs.Prelude.{ℕ, ◌+◌, Bool, cond, List, length, ℤ, pos, Some, None, Ok, Err, Option, Result, ◌==◌}
 use Rattle.std.specs.List.{prefix_len}
 use Rattle.wire.specs.declared.kind.Kind.{Kind}
 use Rattle.wire.specs.declared.kind.Kind.TheVariants as kind
@@ -9,12 +9,12 @@ use Rattle.wire.specs.declared.row.Row.{Row}
 use Rattle.wire.specs.declared.refusal.Refusal.{Refusal}
 use Rattle.wire.specs.declared.refusal.Refusal.TheVariants.{StrayText, BadReference, BadText}
 use Rattle.wire.specs.Rows.{blank_row}
-use Rattle.texts.specs.Bytes.{is_blank, unblanked}
+use Rattle.texts.specs.Bytes.{is_blank}
 use Rattle.texts.specs.Booleans.{boolean_of}
 use Rattle.texts.specs.Methods.{is_method_name}
 use Rattle.numbers.specs.Ints.{int_of}
 use Rattle.numbers.specs.Doubles.{double_of}
-use Rattle.dates.specs.Moments.{Moment, date_of}
+use Rattle.dates.specs.Moments.{date_of}
 use Rattle.base64_texts.specs.Base64.{is_base64}
 use Rattle.characters.specs.Checking.{counted}
 use Rattle.characters.specs.declared.check.BadCharacters.{BadCharacters}

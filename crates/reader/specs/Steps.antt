@@ -1,5 +1,5 @@
 -- The reading of a message's parts, step by step: its rows, or the first refusal.
-use Rattle.std.specs.Prelude.{ℕ, zero, suc, ◌+◌, Bool, true, false, cond, List, [], ◌∷◌, length, pos, Some, None, Ok, Err, Option, Result, nat_lt}
+use Rattle.std.specs.Prelude.{ℕ, zero, suc, ◌+◌, Bool, true, false, cond, List, [], ◌∷◌, length, Some, None, Ok, Err, Option, Result, nat_lt}
 use Rattle.wire.specs.declared.kind.Kind.{Kind}
 use Rattle.wire.specs.declared.kind.Kind.TheVariants as kind
 use Rattle.wire.specs.declared.row.Row.{Row}
@@ -8,7 +8,7 @@ use Rattle.wire.specs.declared.refusal.Refusal.{Refusal}
 use Rattle.wire.specs.declared.refusal.Refusal.TheVariants.{Unfinished, NotATag, MisplacedTag, TooDeep}
 use Rattle.wire.specs.Rows.{blank_row}
 use Rattle.parts.specs.declared.tag.Tag.{Tag}
-use Rattle.parts.specs.Cutting.{Piece, run, tag, Parts, ends, broken, ◌then◌}
+use Rattle.parts.specs.Cutting.{run, tag, Parts, ends, broken, ◌then◌}
 use Rattle.table.specs.declared.mode.Mode.{Mode}
 use Rattle.table.specs.declared.mode.Mode.TheVariants.{Start, Call, Response, Value, Struct, Array, Finished}
 use Rattle.table.specs.declared.mode.CallMode.TheVariants as call

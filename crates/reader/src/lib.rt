@@ -1,4 +1,6 @@
 // Reading a message into rows, or telling the first refusal.
+#![tactic(auto)]
+
 mod fault;
 mod frame;
 mod machine;

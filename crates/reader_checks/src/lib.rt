@@ -1,3 +1,5 @@
+#![tactic(auto)]
+
 // Tests of the reading: refusals with their places, and messages as clients send them.
 #[cfg(test)]
 mod tests {

@@ -42,7 +42,7 @@ pub(crate) fn encode(bytes: &[u8], out: &mut Vec<u8>) -> Result<(), AllocError> 
 // The bytes that hexadecimal stands for; nothing where it has another shape.
 pub(crate) fn decode(heap: Global, hex: &[u8]) -> Result<Option<Vec<u8>>, AllocError> {
     let mut bytes = Vec::new(heap);
-    if hex == b"-" {
+    if hex == b"-".as_slice() {
         return Ok(Some(bytes));
     }
     if hex.is_empty() || hex.len() % 2 != 0 {

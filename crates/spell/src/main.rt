@@ -1,4 +1,6 @@
 // Reads texts of the format, one a line, and prints what each reads as and how it is written.
+#![tactic(auto)]
+
 mod answer;
 mod hex;
 mod line;

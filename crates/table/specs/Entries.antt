@@ -1,5 +1,5 @@
 -- Which tags the grammar has at each point, and what each does.
-use Rattle.std.specs.Prelude.{◌≡◌, ℕ, ◌+◌, ◌*◌, Bool, true, false, cond, List, [], ◌∷◌, Some, None, Option, ◌==◌}
+use Rattle.std.specs.Prelude.{ℕ, ◌+◌, ◌*◌, cond, List, [], ◌∷◌, Some, None, Option, ◌==◌}
 use Rattle.parts.specs.declared.name.Name.{Name}
 use Rattle.parts.specs.declared.name.Name.TheVariants as name
 use Rattle.parts.specs.declared.tag.Tag.{Tag}
@@ -18,7 +18,6 @@ use Rattle.table.specs.declared.mode.StructMode.{StructMode}
 use Rattle.table.specs.declared.mode.StructMode.TheVariants as struct
 use Rattle.table.specs.declared.mode.ArrayMode.{ArrayMode}
 use Rattle.table.specs.declared.mode.ArrayMode.TheVariants as array
-use Rattle.table.specs.declared.mode.Shape.{Shape}
 use Rattle.table.specs.declared.mode.Shape.TheVariants as shape
 use Rattle.table.specs.declared.mode.Move.{Move}
 use Rattle.table.specs.declared.mode.Move.TheVariants as move

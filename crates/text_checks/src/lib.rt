@@ -1,3 +1,5 @@
+#![tactic(auto)]
+
 // Tests of what the program `spell` does not show: texts compared as they are read, and writers on short pages.
 #[cfg(test)]
 mod tests {

@@ -1,5 +1,7 @@
 // What the readers and writers of all texts share: classes of bytes, blanks, digits, and the
 // two smallest texts, method names and booleans.
+#![tactic(auto)]
+
 pub mod booleans;
 pub mod bytes;
 pub mod digits;

@@ -1,11 +1,11 @@
 -- Past the first row of a message stand the rows of values and members alone.
-use Rattle.std.proofs.Common.{◌≡◌, ◌≤◌, ◌⊎◌, List, [], ◌∷◌, ◌++◌, refl, ap, inl, inr, arith, lit≤}
+use Rattle.std.proofs.Common.{◌≡◌, ◌≤◌, List, refl, ap, inl, inr, arith, lit≤}
 use Rattle.std.specs.List.{AllByRecursion as All}
 use Rattle.std.proofs.ByRecursion.{All-append, All-weaker}
 use Rattle.wire.specs.declared.kind.Kind.{Kind}
 use Rattle.wire.specs.declared.kind.Kind.TheVariants as kind
 use Rattle.wire.specs.Kinds.{kind_number}
-use Rattle.wire.specs.Trees.{Content, Value, Members, Values, Message, int, boolean, string, double, date, base64, struct, array, none, member, end, value, call, response, fault, value_rows, members_rows, values_rows, message_rows}
+use Rattle.wire.specs.Trees.{Content, Value, Members, Values, int, boolean, string, double, date, base64, struct, array, none, member, end, value, call, response, fault, value_rows, members_rows, values_rows}
 use Rattle.wire.specs.RowLaws.{Opens, FirstRowOpens, NoRowIsBlank}
 
 -- the row of a value or a member: the kinds are numbered from 4 on

@@ -4,7 +4,7 @@ use Rattle.std.proofs.Common.{◌≡◌, ℕ, Bool, true, false, cond, eqb, List
 use Rattle.wire.specs.declared.kind.Kind.{Kind}
 use Rattle.wire.specs.declared.kind.Kind.TheVariants as kind
 use Rattle.wire.specs.Kinds.{kind_number}
-use Rattle.wire.specs.Trees.{Content, Value, Members, Values, Message, int, boolean, string, double, date, base64, struct, array, none, member, end, value, call, response, fault, member_count, value_count, text_row, number_row, holder_row, value_rows, members_rows, values_rows, message_rows}
+use Rattle.wire.specs.Trees.{Content, Value, Members, Values, int, boolean, string, double, date, base64, struct, array, none, member, end, value, call, response, fault, member_count, value_count, text_row, number_row, holder_row, value_rows, members_rows, values_rows}
 use Rattle.wire.specs.RowLaws.{RowsTellMessages}
 
 -- a value's own row, and the members and the values that it holds

@@ -1,4 +1,4 @@
-use Rattle.std.proofs.Common.{arith, rules}
+use Rattle.std.proofs.Common.{rules}
 use Rattle.base64_texts.proofs.Groups.{length-spelling}
 use Rattle.base64_texts.proofs.base64_len.Goals as goal
 

@@ -1,4 +1,4 @@
-use Rattle.std.proofs.Common.{◌≡◌, ℕ, List, get_or, sym, ◌∙◌, arith}
+use Rattle.std.proofs.Common.{sym, ◌∙◌}
 use Rattle.base64_texts.specs.Base64.{sextet}
 use Rattle.base64_texts.proofs.Scan.{Ended, scanned_letter, scanned_blank, scanned_stop, scanned_all}
 use Rattle.base64_texts.proofs.front_of.Goals as goal

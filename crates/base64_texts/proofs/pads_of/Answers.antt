@@ -1,4 +1,4 @@
-use Rattle.std.proofs.Common.{◌≡◌, true, false, get_or, sym, ap, ◌∙◌, arith}
+use Rattle.std.proofs.Common.{◌≡◌, true, false, get_or, sym, arith}
 use Rattle.std.proofs.lemmas.Bool.Decides.{nat_tests}
 use Rattle.base64_texts.specs.Base64.{is_pad}
 use Rattle.base64_texts.proofs.Scan.{pad_ahead, blank_ahead, stop_ahead, none_ahead}

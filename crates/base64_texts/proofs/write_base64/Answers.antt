@@ -1,8 +1,6 @@
-use Rattle.std.proofs.Common.{◌≡◌, ℕ, ◌<◌, List, length, get_or, sym, refl, subst, arith, rules}
+use Rattle.std.proofs.Common.{ℕ, ◌<◌, List, get_or, arith, rules}
 use Rattle.std.specs.List.{AllByRecursion as All}
 use Rattle.std.proofs.ByRecursion.{All-from_get_or}
-use Rattle.texts.specs.Pages.{Writes}
-use Rattle.base64_texts.specs.Base64.{base64_spelling}
 use Rattle.base64_texts.proofs.Groups.{reads_back}
 use Rattle.base64_texts.proofs.write_base64.Goals as goal
 

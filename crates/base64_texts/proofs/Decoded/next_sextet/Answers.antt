@@ -1,5 +1,5 @@
-use Rattle.std.proofs.Common.{◌≡◌, ◌+◌, ◌<◌, ◌∷◌, length, get_or, drop, sym, refl, ap, ◌∙◌, arith}
-use Rattle.base64_texts.specs.Base64.{sextet, sextets}
+use Rattle.std.proofs.Common.{◌≡◌, ◌+◌, ◌∷◌, get_or, drop, sym, refl, ap, ◌∙◌, arith}
+use Rattle.base64_texts.specs.Base64.{sextets}
 use Rattle.base64_texts.proofs.Scan.{sextets_at_letter, sextets_at_stop, sextets_at_end}
 use Rattle.base64_texts.proofs.Groups.{sextet_below}
 use Rattle.base64_texts.proofs.Decoded.next_sextet.Goals as goal

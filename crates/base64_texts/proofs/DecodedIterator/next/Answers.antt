@@ -1,7 +1,6 @@
 use Rattle.std.proofs.Common.{◌≡◌, ℕ, ◌<◌, List, ◌∷◌, length, sym, ap, ◌∙◌, arith, rules}
 use Rattle.base64_texts.specs.Base64.{packed}
-use Rattle.base64_texts.specs.Cursor.{ahead, goes_on, left}
-use Rattle.base64_texts.specs.declared.Held.{Held}
+use Rattle.base64_texts.specs.Cursor.{ahead, goes_on}
 use Rattle.base64_texts.specs.declared.Held.TheVariants.{Nothing, Four, Two}
 use Rattle.base64_texts.proofs.Groups.{packed_first, packed_second, packed_third}
 use Rattle.base64_texts.proofs.DecodedIterator.next.Goals as goal

@@ -1,4 +1,4 @@
-use Rattle.std.proofs.Common.{◌≡◌, sym, refl, ap, ◌∙◌, subst}
+use Rattle.std.proofs.Common.{subst}
 use Rattle.dates.specs.Dates.{moment_of}
 use Rattle.dates.proofs.Spelled.{date_reads_back}
 use Rattle.texts.specs.Pages.{Writes}

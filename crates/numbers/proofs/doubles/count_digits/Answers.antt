@@ -1,12 +1,12 @@
-use Rattle.std.proofs.Common.{◌≡◌, ℕ, ◌+◌, ◌-◌, ◌^◌, ◌<◌, ◌≤◌, true, false, leb, List, ◌++◌, length, take, drop, sym, refl, ap, ◌∙◌, subst, arith, length-append, length-drop, length-take}
+use Rattle.std.proofs.Common.{◌≡◌, ℕ, ◌+◌, ◌-◌, ◌^◌, ◌<◌, ◌≤◌, List, length, take, drop, sym, ap, ◌∙◌, subst, arith, length-append, length-drop, length-take}
 use native.Mathlib.Nat.{pow-le-pow_right}
 use Rattle.std.specs.List.{prefix_len, suffix_len}
 use Rattle.std.proofs.ByRecursion.{All-take, All-drop}
 use Rattle.std.proofs.lemmas.List.{take_rest, length-take-le}
 use Rattle.std.proofs.lemmas.Bool.{le-leb, lt-leb}
-use Rattle.texts.specs.Digits.{is_digit, worth, worth_after}
+use Rattle.texts.specs.Digits.{worth, worth_after}
 use Rattle.texts.proofs.Numerals.{worth_after-append}
-use Rattle.numbers.specs.Doubles.{is_zero, AllDigits, counted_whole, counted_fraction, counted}
+use Rattle.numbers.specs.Doubles.{is_zero, counted_whole, counted_fraction, counted}
 use Rattle.numbers.proofs.doubles.count_digits.Goals as goal
 use Rattle.numbers.proofs.doubles.count_digits.Goals.{then-before-gt-MOST-via-then-before-gt-MOST, then-before-gt-MOST-via-else-before-gt-MOST+then-after-before}
 

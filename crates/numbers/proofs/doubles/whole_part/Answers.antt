@@ -1,4 +1,4 @@
-use Rattle.std.proofs.Common.{◌≡◌, ℕ, suc, ◌+◌, ◌*◌, ◌/◌, ◌^◌, sym, refl, ap, ◌∙◌, pow-suc, div-one, arith}
+use Rattle.std.proofs.Common.{◌≡◌, suc, ◌+◌, ◌/◌, ◌^◌, sym, ap, ◌∙◌, pow-suc, div-one, arith}
 use native.Mathlib.Nat.{div-div-eq-div-mul}
 use Rattle.numbers.proofs.doubles.whole_part.Goals as goal
 

@@ -1,4 +1,4 @@
-use Rattle.std.proofs.Common.{◌≡◌, ℕ, ◌+◌, ◌-◌, ◌/◌, ◌^◌, max, cond, eqb, ◌∷◌, ◌++◌, length, take, drop, set, nat_abs, sym, refl, ap, ◌∙◌, arith, length-append, length-drop, length-set, length-take, w64, SFits}
+use Rattle.std.proofs.Common.{◌≡◌, ◌+◌, ◌-◌, ◌/◌, ◌^◌, max, cond, eqb, ◌∷◌, ◌++◌, length, take, drop, set, nat_abs, sym, refl, ap, ◌∙◌, arith, length-append, length-drop, length-set, length-take, w64, SFits}
 use Rattle.std.proofs.lemmas.Int.{to_z-of_z}
 use Rattle.std.proofs.lemmas.Bool.{cond-true, cond-false, eq-eqb, ne_eqb}
 use Rattle.texts.specs.Digits.{padded}

@@ -1,4 +1,4 @@
-use Rattle.std.proofs.Common.{◌≡◌, ◌+◌, ◌-◌, true, false, List, [], ◌∷◌, ◌++◌, length, take, drop, set, decimal, sym, refl, ap, ◌∙◌, arith, length-drop, length-set, length-take}
+use Rattle.std.proofs.Common.{◌≡◌, ◌+◌, ◌-◌, ◌++◌, length, take, drop, set, decimal, sym, ap, ◌∙◌, arith, length-drop, length-set, length-take}
 use borrow.Rule.Slice.PartMut.{put_mid, post_of}
 use Rattle.numbers.specs.Signs.{signed_spelling}
 use Rattle.numbers.proofs.Spelled.{padded_decimal, put_minus}

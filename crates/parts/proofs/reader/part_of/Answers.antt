@@ -1,4 +1,4 @@
-use Rattle.std.proofs.Common.{◌≡◌, ℕ, ◌-◌, ◌≤◌, min, length, take, drop, refl, ap, ◌∙◌, arith}
+use Rattle.std.proofs.Common.{◌≡◌, ◌-◌, min, length, take, refl, ap, ◌∙◌, arith}
 use Rattle.parts.proofs.Cuts.{take_min}
 use Rattle.parts.proofs.reader.part_of.Goals as goal
 

@@ -1,8 +1,8 @@
-use Rattle.std.proofs.Common.{◌≡◌, ℕ, ◌+◌, ◌-◌, ◌≤◌, List, length, take, drop, Some, None, sym, ap, ◌∙◌, arith, length-drop}
+use Rattle.std.proofs.Common.{◌≡◌, ℕ, ◌-◌, List, length, take, drop, sym, ap, ◌∙◌, arith, length-drop}
 use Rattle.std.specs.List.{prefix_len}
 use Rattle.std.proofs.lemmas.List.{take_rest}
 use Rattle.texts.specs.Bytes.{is_blank}
-use Rattle.parts.specs.Tags.{in_name, named, name_len, name_end}
+use Rattle.parts.specs.Tags.{named, name_len}
 use Rattle.parts.proofs.tag.named_until.Goals as goal
 
 -- the name that is cut off

@@ -1,4 +1,4 @@
-use Rattle.std.proofs.Common.{◌≡◌, ℕ, [], length, drop, set, sym, ap, ◌∙◌, arith, length-drop}
+use Rattle.std.proofs.Common.{[], length, drop, set, sym, ap, ◌∙◌, arith, length-drop}
 use Rattle.parts.specs.Cutting.{part_count}
 use Rattle.parts.proofs.Turns.{few_parts}
 use Rattle.reader.specs.Steps.{judge}
@@ -9,7 +9,7 @@ pub loop-token-init : goal.loop-token-init
 loop-token-init c =
     let msg = c.args.message.now in
     let rs = c.args.rows.now in
-    let begun = c.in-ok-reader.ensures.parts in
+    let begun = c.in_ok-reader.ensures.parts in
     let n = begun.0 in
     let m = c.new-machine.ensures in
     let count = ap part_count begun.3 in (

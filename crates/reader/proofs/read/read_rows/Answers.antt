@@ -19,11 +19,11 @@ returns-in-Ok c =
 pub returns-in-Err : goal.returns-in-Err
 returns-in-Err c =
     let msg = c.args.message.now in
-    let after = c.try-rows.new.rows in
-    let kept : length after ≡ length c.args.rows.now = omega (arith, c.try-rows.auto.rows) in
+    let after = c.try_rows.new.rows in
+    let kept : length after ≡ length c.args.rows.now = omega (arith, c.try_rows.auto.rows) in
     record {
       value = c.in-Err.ensures.value;
-      rows = c.blank-rows.ensures ∙ all_cleared blank_row (length after) after refl ∙ ap (λ k. replicate k blank_row) kept;
+      rows = c.blank_rows.ensures ∙ all_cleared blank_row (length after) after refl ∙ ap (λ k. replicate k blank_row) kept;
       derived = (derived_is_read msg, read_is_derived msg);
       one = only_message msg;
       known = known_cases_lem;

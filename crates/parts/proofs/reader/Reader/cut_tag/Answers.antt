@@ -2,7 +2,7 @@ use Rattle.std.proofs.Common.{◌≡◌, ◌+◌, true, false, ◌⊎◌, length
 use Rattle.std.proofs.lemmas.List.{take_rest}
 use Rattle.parts.specs.declared.reader.Next.TheVariants as next
 use Rattle.parts.specs.Tags.{element_of, tag_of}
-use Rattle.parts.specs.Cutting.{tag, ◌then◌}
+use Rattle.parts.specs.Cutting.{◌then◌}
 use Rattle.parts.specs.Readers.{parts_left, parts_by, Borrows}
 use Rattle.parts.proofs.Turns.{at_end, at_stray, at_tag, tag_inside}
 use Rattle.parts.proofs.reader.Reader.cut_tag.Goals as goal

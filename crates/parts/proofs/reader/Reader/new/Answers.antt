@@ -1,4 +1,4 @@
-use Rattle.std.proofs.Common.{◌≡◌, sym, refl}
+use Rattle.std.proofs.Common.{sym, refl}
 use Rattle.parts.specs.Readers.{parts_left}
 use Rattle.parts.proofs.OneWay.{one_way}
 use Rattle.parts.proofs.reader.Reader.new.Goals as goal

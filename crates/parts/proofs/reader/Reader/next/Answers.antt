@@ -1,9 +1,9 @@
-use Rattle.std.proofs.Common.{◌≡◌, ℕ, ◌+◌, ◌-◌, List, length, take, drop, sym, refl, ap, ◌∙◌, arith, length-drop, Bor}
+use Rattle.std.proofs.Common.{◌≡◌, ℕ, ◌-◌, List, length, take, drop, sym, refl, ap, ◌∙◌, arith, length-drop, Bor}
 use Rattle.std.specs.List.{prefix_len}
 use Rattle.std.proofs.lemmas.List.{length-take-le}
 use Rattle.std.proofs.lemmas.List.Sums.{prefix_len-le-length}
 use Rattle.parts.specs.declared.tag.Tag.TheVariants as tags
-use Rattle.parts.specs.Cutting.{run, tag, ◌then◌, parts_from, parts_at_tag, in_run, run_at}
+use Rattle.parts.specs.Cutting.{run, tag, ◌then◌, parts_from, parts_at_tag, in_run}
 use Rattle.parts.specs.Readers.{parts_left, parts_by}
 use Rattle.parts.proofs.Turns.{at_run}
 use Rattle.parts.proofs.reader.Reader.next.Goals as goal

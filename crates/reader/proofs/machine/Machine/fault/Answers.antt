@@ -1,4 +1,4 @@
-use Rattle.std.proofs.Common.{◌≡◌, ℕ, ◌-◌, ◌<◌, List, length, get_or, set, Ok, sym, refl, ap, ◌∙◌, arith, rules}
+use Rattle.std.proofs.Common.{◌-◌, ◌<◌, length, get_or, set, Ok, sym, ap, ◌∙◌, arith, rules}
 use Rattle.table.specs.declared.mode.Mode.TheVariants.{Response}
 use Rattle.table.specs.declared.mode.ResponseMode.TheVariants as response
 use Rattle.table.specs.declared.mode.Shape.TheVariants as shape

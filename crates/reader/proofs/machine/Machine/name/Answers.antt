@@ -1,7 +1,6 @@
-use Rattle.std.proofs.Common.{◌≡◌, ℕ, ◌-◌, ◌<◌, List, length, get_or, set, Ok, sym, refl, ap, ◌∙◌, arith, rules}
+use Rattle.std.proofs.Common.{◌-◌, ◌<◌, length, get_or, set, Ok, sym, ap, ◌∙◌, arith, rules}
 use Rattle.table.specs.declared.mode.Mode.TheVariants.{Call}
 use Rattle.table.specs.declared.mode.CallMode.TheVariants as call
-use Rattle.table.specs.declared.mode.Shape.TheVariants as shape
 use Rattle.reader.specs.Steps.{st, frame, named}
 use Rattle.reader.specs.Held.{no_frame}
 use Rattle.reader.proofs.Stack.{stack_top, stack_set_top, counts_keep}

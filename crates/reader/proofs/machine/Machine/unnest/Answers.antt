@@ -8,7 +8,7 @@ returns c =
     let d = c.args.self.now.depth in
     let xs = c.args.self.now.stack in
     let q = c.store.ensures in
-    let a = c.holder-row.ensures in
+    let a = c.holder_row.ensures in
     let b = c.past-self.ensures in
     record {
       fit = record { deep = omega arith; rows = c.requires.fit.rows; counts = c.requires.fit.counts };

@@ -1,5 +1,5 @@
 use Rattle.std.proofs.Common.{◌≡◌, ◌-◌, ◌≤◌, [], length, take, drop, sym, ap, ◌∙◌, arith}
-use Rattle.std.proofs.lemmas.List.{take_all, drop_all, take_rest, length-drop}
+use Rattle.std.proofs.lemmas.List.{take_all, drop_all, take_rest}
 use Rattle.wire.proofs.row.Span.cut.Goals as goal
 
 pub returns-then-start-memory : goal.returns-then-start-memory
