@@ -7,11 +7,14 @@ usage: python3 tools/respell.py        at the top of the repository, once, right
 Functions and values of specs/ and proofs/ go to snake case. In a name with dashes they become `_`,
 but for those that join two names, as in `length-packed`. A lemma that would get the name of the function
 that it speaks of gets `_lem` behind it. Functions of src/, strings, inputs, outputs and
-the names that rattle makes (goals, invariants, measures) keep their spelling.
+the names that rattle makes (goals, invariants, measures) keep their spelling. A crate that has the name of a
+library of the kit gets another, std's `AllByRecursion` stands under its own name, and a class of bytes is
+named by its type alone.
 """
 
 import collections
 import glob
+import os
 import re
 import sys
 
@@ -25,6 +28,9 @@ EARLIER = {"crates/held/proofs/InMessage.antt": {"by_value": "by_value_lem", "ro
 TAKEN = {"put_mid", "and_then", "run_row"}
 # constructors and functions of different modules, which never meet
 APART = {"in-name"}
+
+# crates that the kit has libraries named as
+CRATES = {"base64": "base64_texts", "hex": "hex_texts"}
 
 
 def antt_files():
@@ -79,6 +85,35 @@ def turned_rt(text, new):
     return "".join(p if i % 2 else turned(p, new) for i, p in enumerate(pieces))
 
 
+def renamed(text, rt):
+    """With the crates' new names, and with library words under their own."""
+    for old, new in CRATES.items():
+        text = text.replace(f"Rattle.{old}.", f"Rattle.{new}.")
+        if rt:
+            text = re.sub(rf"(?<![\w:]){old}::(?!\{{?(?:decode|encode)\b)", f"{new}::", text)
+    if re.search(r"AllByRecursion as All\b", text):
+        text = re.sub(r"AllByRecursion as All\b", "@", text)
+        text = re.sub(r"(?<![\w'-])All(?![\w'-])", "AllByRecursion", text).replace("@", "AllByRecursion")
+    used = {a or b for a, b in re.findall(r"<texts::bytes::(\w+) as Class>::has|::<texts::bytes::(\w+)>", text)}
+    if rt and used:
+        text = re.sub(r"<texts::bytes::(\w+) as Class>::has", r"\1::has", text)
+        text = re.sub(r"::<texts::bytes::(\w+)>", r"::<\1>", text)
+        line = re.search(r"^use texts::bytes::(?:\{([^}]*)\}|(\w+));\n", text, re.M)
+        names = sorted({n.strip() for n in (line[1] or line[2]).split(",")} | used)
+        text = text.replace(line[0], "use texts::bytes::{" + ", ".join(names) + "};\n")
+    return text
+
+
+def rename_crates():
+    for old, new in CRATES.items():
+        if os.path.isdir(f"crates/{old}/src"):
+            os.rename(f"crates/{old}", f"crates/{new}")
+    with open("crates.txt", encoding="utf-8") as it:
+        text = it.read()
+    with open("crates.txt", "w", encoding="utf-8") as it:
+        it.write(re.sub(rf"\b({'|'.join(CRATES)})\b", lambda m: CRATES[m[0]], text))
+
+
 def main(argv):
     new = names()
     back = collections.defaultdict(set)
@@ -95,12 +130,15 @@ def main(argv):
             if new[o] in words and f.endswith(".antt") and new[o] not in EARLIER.get(f, {}):
                 print("falls together:", f, o, new[o])
         if "--dry" not in argv:
-            text = turned(text, EARLIER.get(f, {}))
+            was, text = text, turned(text, EARLIER.get(f, {}))
             turn = turned_rt(text, new) if f.endswith(".rt") else turned(text, new)
-            if turn != text:
+            turn = renamed(turn, f.endswith(".rt"))
+            if turn != was:
                 with open(f, "w", encoding="utf-8") as it:
                     it.write(turn)
-    if "--dry" in argv:
+    if "--dry" not in argv:
+        rename_crates()
+    else:
         print("\n".join(f"{o} -> {n}" for o, n in sorted(new.items())))
     return 0
 

@@ -1,6 +1,6 @@
 -- Groups of sextets and of bytes: how long they are, and that packing and spelling undo one another.
 use Rattle.std.proofs.Common.{◌≡◌, ℕ, ◌+◌, ◌*◌, ◌/◌, ◌%◌, ◌^◌, ◌<◌, ◌≤◌, Bool, true, false, cond, ◌&&◌, eqb, leb, List, [], ◌∷◌, ◌++◌, map, length, get_or, take, drop, replicate, Decides, sym, refl, ap, ◌∙◌, subst, arith}
-use Rattle.std.specs.List.{prefix_len, AllByRecursion as All}
+use Rattle.std.specs.List.{prefix_len, AllByRecursion}
 use Rattle.std.proofs.lemmas.List.{take-append-drop, length-append, length-map}
 use Rattle.std.proofs.lemmas.Bool.Decides.{nat_tests}
 use Rattle.std.proofs.lemmas.Bool.{eqb-true}
@@ -37,12 +37,12 @@ both true P f g = f refl
 both false P f g = g refl
 
 -- the front that passes passes
-all_front : (p : ℕ → Bool) (xs : List ℕ) → All (λ b. p b ≡ true) (take (prefix_len p xs) xs)
+all_front : (p : ℕ → Bool) (xs : List ℕ) → AllByRecursion (λ b. p b ≡ true) (take (prefix_len p xs) xs)
 all_front p [] = tt
 all_front p (x ∷ xs) =
     both (p x) _
-    (λ e. subst (All (λ b. p b ≡ true)) (sym (front_yes p x xs e)) (e, all_front p xs))
-    (λ e. subst (All (λ b. p b ≡ true)) (sym (front_no p x xs e)) tt)
+    (λ e. subst (AllByRecursion (λ b. p b ≡ true)) (sym (front_yes p x xs e)) (e, all_front p xs))
+    (λ e. subst (AllByRecursion (λ b. p b ≡ true)) (sym (front_no p x xs e)) tt)
 
 pads_are : (ps : List ℕ) → prefix_len is_pad ps ≡ length ps → ps ≡ replicate (length ps) 61
 pads_are [] h = refl
@@ -76,7 +76,7 @@ abbrev back : (b v : ℕ) → is_letter b ≡ true → v ≡ sextet b → letter
 back b v h e = ap letter e ∙ letter_sextet b h
 
 -- whole groups of letters and their padding are the spelling of their bytes
-respelt : (s : ℕ) (ls ps : List ℕ) → All (λ b. is_letter b ≡ true) ls → prefix_len is_pad ps ≡ length ps → length ps ≤ 2
+respelt : (s : ℕ) (ls ps : List ℕ) → AllByRecursion (λ b. is_letter b ≡ true) ls → prefix_len is_pad ps ≡ length ps → length ps ≤ 2
     → (length ls + length ps) % 4 ≡ 0 → last_or s (map sextet ls) % (4 ^ length ps) ≡ 0
     → base64_spelling (packed (map sextet ls)) ≡ ls ++ ps
 respelt s [] ps all pads few whole zero' =
@@ -193,7 +193,7 @@ record Good (s : ℕ) (ss ps : List ℕ) : Type 0 where
 good_at : (s : ℕ) (ss ss' ps ps' : List ℕ) → ss' ≡ ss → ps' ≡ ps → Good s ss ps → Good s ss' ps'
 good_at s ss ss' ps ps' e f g = subst (λ xs. Good s xs ps') (sym e) (subst (λ qs. Good s ss qs) (sym f) g)
 
-spelling_good : (s : ℕ) (bs : List ℕ) → All (λ b. b < 256) bs → Good s (sextets (base64_spelling bs)) (padding (base64_spelling bs))
+spelling_good : (s : ℕ) (bs : List ℕ) → AllByRecursion (λ b. b < 256) bs → Good s (sextets (base64_spelling bs)) (padding (base64_spelling bs))
 spelling_good s [] all = record { pads = refl; few = omega arith; whole = refl; unused = omega arith }
 spelling_good s (a ∷ []) all =
     let below = all.0 in
@@ -212,7 +212,7 @@ spelling_good s (a ∷ b ∷ c ∷ bs) all =
     good_at s ((a / 4) ∷ (a % 4 * 16 + b / 16) ∷ (b % 16 * 4 + c / 64) ∷ (c % 64) ∷ sextets t) _ (padding t) _ r.0 r.1
     (record { pads = g.pads; few = g.few; whole = omega arith; unused = g.unused })
 
-decoded_back : (bs : List ℕ) → All (λ b. b < 256) bs → decoded (base64_spelling bs) ≡ bs
+decoded_back : (bs : List ℕ) → AllByRecursion (λ b. b < 256) bs → decoded (base64_spelling bs) ≡ bs
 decoded_back [] all = refl
 decoded_back (a ∷ []) all =
     let below = all.0 in
@@ -239,7 +239,7 @@ ending : (pads left : ℕ) → pads ≤ 2 → left ≡ 0 → (leb pads 2 && eqb 
 ending pads left h k = grind (arith, nat_tests)
 
 -- a spelling is a base64 text, and stands for the bytes that it spells
-pub reads_back : (bs : List ℕ) → All (λ b. b < 256) bs → (is_base64 (base64_spelling bs) ≡ true) × (decoded (base64_spelling bs) ≡ bs)
+pub reads_back : (bs : List ℕ) → AllByRecursion (λ b. b < 256) bs → (is_base64 (base64_spelling bs) ≡ true) × (decoded (base64_spelling bs) ≡ bs)
 reads_back bs all =
     let text = base64_spelling bs in
     let g = spelling_good 0 bs all in
@@ -251,7 +251,7 @@ reads_back bs all =
     )
 
 -- sextets make bytes
-packed_below : (ss : List ℕ) → All (λ s. s < 64) ss → All (λ b. b < 256) (packed ss)
+packed_below : (ss : List ℕ) → AllByRecursion (λ s. s < 64) ss → AllByRecursion (λ b. b < 256) (packed ss)
 packed_below [] all = tt
 packed_below (a ∷ []) all = tt
 packed_below (a ∷ b ∷ []) all =
@@ -264,16 +264,16 @@ packed_below (a ∷ b ∷ c ∷ d ∷ ss) all =
     let below-a = all.0 in let below-b = all.1.0 in let below-c = all.1.1.0 in let below-d = all.1.1.1.0 in
     (omega arith, (omega arith, (omega arith, packed_below ss all.1.1.1.1)))
 
-sextets_below : (ls : List ℕ) → All (λ s. s < 64) (map sextet ls)
+sextets_below : (ls : List ℕ) → AllByRecursion (λ s. s < 64) (map sextet ls)
 sextets_below [] = tt
 sextets_below (l ∷ ls) = (sextet_below l, sextets_below ls)
 
 -- every text stands for bytes
-pub decoded_below : (text : List ℕ) → All (λ b. b < 256) (decoded text)
+pub decoded_below : (text : List ℕ) → AllByRecursion (λ b. b < 256) (decoded text)
 decoded_below text = packed_below (sextets text) (sextets_below (letters text))
 
 -- what holds of letters and of `=` holds of every byte of a spelling
-pub all_spelling : (P : ℕ → Type 0) → P 61 → ((b : ℕ) → is_letter b ≡ true → P b) → (bs : List ℕ) → All (λ b. b < 256) bs → All P (base64_spelling bs)
+pub all_spelling : (P : ℕ → Type 0) → P 61 → ((b : ℕ) → is_letter b ≡ true → P b) → (bs : List ℕ) → AllByRecursion (λ b. b < 256) bs → AllByRecursion P (base64_spelling bs)
 all_spelling P pad is [] all = tt
 all_spelling P pad is (a ∷ []) all =
     let below = all.0 in

@@ -1,6 +1,6 @@
 -- Base64 texts: RFC 2045's alphabet, groups of four, blanks skipped.
 use Rattle.std.specs.Prelude.{◌≡◌, ℕ, ◌+◌, ◌-◌, ◌*◌, ◌/◌, ◌%◌, ◌^◌, ◌<◌, Bool, cond, not, ◌&&◌, ◌||◌, List, [], ◌∷◌, map, length, take, drop, filter, ◌==◌, nat_le, nat_lt}
-use Rattle.std.specs.List.{prefix_len, AllByRecursion as All}
+use Rattle.std.specs.List.{prefix_len, AllByRecursion}
 use Rattle.texts.specs.Bytes.{within, is_blank}
 
 -- one of the 64 letters: A to Z, a to z, 0 to 9, `+` and `/`
@@ -70,4 +70,4 @@ base64_spelling (a ∷ b ∷ c ∷ bs) =
 
 -- blanks aside, the text is the spelling of some bytes
 abbrev pub SpellsBytes : List ℕ → Type 0
-SpellsBytes text = (bs : List ℕ) × All (λ b. b < 256) bs × (nonblank text ≡ base64_spelling bs)
+SpellsBytes text = (bs : List ℕ) × AllByRecursion (λ b. b < 256) bs × (nonblank text ≡ base64_spelling bs)

@@ -1,6 +1,6 @@
 -- What is written, put in front of anything, is cut into parts of its own.
 use Rattle.std.proofs.Common.{◌≡◌, ℕ, ◌+◌, true, List, [], ◌∷◌, ◌++◌, length, sym, refl, subst, append_assoc}
-use Rattle.std.specs.List.{AllByRecursion as All}
+use Rattle.std.specs.List.{AllByRecursion}
 use Rattle.std.proofs.ByRecursion.{All-append, All-weaker}
 use Rattle.characters.specs.References.{is_character, all_characters}
 use Rattle.characters.proofs.BodyBytes.{Good}
@@ -78,7 +78,7 @@ opened n = record {
   is = λ p ps. a_tag;
 }
 
-closed : (n : Name) (t : List ℕ) → All InText t → Reads (t ++ close_tag n) (ATag t (Close n))
+closed : (n : Name) (t : List ℕ) → AllByRecursion InText t → Reads (t ++ close_tag n) (ATag t (Close n))
 unfolding close_tag
 closed n t h = record {
   good = All-append (λ b. is_character b ≡ true) t (close_tag n) (All-weaker InText (λ b. is_character b ≡ true) (λ b k. k.0) t h) (refl, (refl, tag_good n));
@@ -108,7 +108,7 @@ both a b f g = record {
 pub so_is : {form : List ℕ} {A B : Parts → Parts → Type 0} → Reads form A → ((ps qs : Parts) → A ps qs → B ps qs) → Reads form B
 so_is r f = record { good = r.good; behind = r.behind; parts = r.parts; cut = r.cut; is = λ p ps. f _ ps (r.is p ps) }
 
-pub holds_text : (n : Name) (t : List ℕ) → All InText t → Reads (element n t) (HoldsText n t)
+pub holds_text : (n : Name) (t : List ℕ) → AllByRecursion InText t → Reads (element n t) (HoldsText n t)
 unfolding element
 holds_text n t h = so_is (both (open_tag n) (t ++ close_tag n) (opened n) (closed n t h)) whole where
   whole : (ps qs : Parts) → InTurn (ATag [] (Open n)) (ATag t (Close n)) ps qs → HoldsText n t ps qs

@@ -1,6 +1,6 @@
 -- What is written for a text that was read: it reads as the same, and its bytes may stand in a text.
 use Rattle.std.proofs.Common.{◌≡◌, ℕ, Bool, true, false, ◌&&◌, eqb, leb, List, [], ◌∷◌, length, ℤ, Some, refl, arith}
-use Rattle.std.specs.List.{prefix_len, AllByRecursion as All}
+use Rattle.std.specs.List.{prefix_len, AllByRecursion}
 use Rattle.std.proofs.ByRecursion.{All-weaker}
 use Rattle.std.proofs.lemmas.Bool.{and_parts, eqb-true}
 use Rattle.std.proofs.lemmas.Bool.Decides.{nat_tests}
@@ -27,36 +27,36 @@ use Rattle.canonical.proofs.Pieces.{InText}
 digit_in_text : (d : ℕ) → is_digit d ≡ true → InText d
 digit_in_text d h = (grind (arith, nat_tests), grind (arith, nat_tests))
 
-pub int_text : (t : List ℕ) {z : ℤ} → int_of t ≡ Some z → (int_of (int_spelling z) ≡ Some z) × All InText (int_spelling z)
+pub int_text : (t : List ℕ) {z : ℤ} → int_of t ≡ Some z → (int_of (int_spelling z) ≡ Some z) × AllByRecursion InText (int_spelling z)
 int_text t {z} e = let fits = int_fits t z e in (int_reads_back z fits, all_int InText (refl, refl) digit_in_text z fits)
 
-pub boolean_text : (b : Bool) → (boolean_of (boolean_spelling b) ≡ Some b) × All InText (boolean_spelling b)
+pub boolean_text : (b : Bool) → (boolean_of (boolean_spelling b) ≡ Some b) × AllByRecursion InText (boolean_spelling b)
 boolean_text true = (refl, ((refl, refl), tt))
 boolean_text false = (refl, ((refl, refl), tt))
 
-pub double_text : (t : List ℕ) {z : ℤ} {scale : ℕ} → double_of t ≡ Some (z, scale) → (double_of (double_spelling z scale) ≡ Some (z, scale)) × All InText (double_spelling z scale)
+pub double_text : (t : List ℕ) {z : ℤ} {scale : ℕ} → double_of t ≡ Some (z, scale) → (double_of (double_spelling z scale) ≡ Some (z, scale)) × AllByRecursion InText (double_spelling z scale)
 double_text t {z} {scale} e =
     let is = double_is t z scale e in
     (double_reads_back z scale is, all_double InText (refl, refl) (refl, refl) digit_in_text z scale is)
 
-pub date_text : (t : List ℕ) {m : Moment} → date_of t ≡ Some m → (date_of (date_spelling m) ≡ Some m) × All InText (date_spelling m)
+pub date_text : (t : List ℕ) {m : Moment} → date_of t ≡ Some m → (date_of (date_spelling m) ≡ Some m) × AllByRecursion InText (date_spelling m)
 date_text t {m} e = (date_reads_back m (date_is t m e), all_date InText (refl, refl) (refl, refl) digit_in_text m)
 
 letter_in_text : (b : ℕ) → is_letter b ≡ true → InText b
 letter_in_text b h = (grind (arith, nat_tests), grind (arith, nat_tests))
 
-pub base64_text : (t : List ℕ) → (is_base64 (base64_spelling (decoded t)) ≡ true) × (decoded (base64_spelling (decoded t)) ≡ decoded t) × All InText (base64_spelling (decoded t))
+pub base64_text : (t : List ℕ) → (is_base64 (base64_spelling (decoded t)) ≡ true) × (decoded (base64_spelling (decoded t)) ≡ decoded t) × AllByRecursion InText (base64_spelling (decoded t))
 base64_text t =
     let below = decoded_below t in
     let back = reads_back (decoded t) below in
     (back.0, back.1, all_spelling InText (refl, refl) letter_in_text (decoded t) below)
 
 -- two facts of each byte are one
-together : (bs : List ℕ) → Good bs → NoLess bs → All InText bs
+together : (bs : List ℕ) → Good bs → NoLess bs → AllByRecursion InText bs
 together [] good no_less = tt
 together (b ∷ bs) good no_less = ((good.0, no_less.0), together bs good.1 no_less.1)
 
-pub characters_text : {t cs : List ℕ} → CharacterData t cs → CharacterData (characters_spelling cs) cs × All InText (characters_spelling cs)
+pub characters_text : {t cs : List ℕ} → CharacterData t cs → CharacterData (characters_spelling cs) cs × AllByRecursion InText (characters_spelling cs)
 characters_text {cs = cs} d =
     let good = stands_for_characters d in
     (spelling_derived cs good, together (characters_spelling cs) (spelling_good cs good) (spelling_no_less cs))
@@ -64,7 +64,7 @@ characters_text {cs = cs} d =
 method_in_text : (b : ℕ) → is_method_byte b ≡ true → InText b
 method_in_text b h = (grind (arith, nat_tests), grind (arith, nat_tests))
 
-pub method_text : (t : List ℕ) → is_method_name t ≡ true → All InText t
+pub method_text : (t : List ℕ) → is_method_name t ≡ true → AllByRecursion InText t
 method_text t h =
     let all = (and_parts (leb (length t) 64) (eqb (prefix_len is_method_byte t) (length t)) (and_parts (leb 1 (length t)) (leb (length t) 64 && eqb (prefix_len is_method_byte t) (length t)) h).1).1 in
     All-weaker (λ b. is_method_byte b ≡ true) InText method_in_text t (all_from_leading is_method_byte t (eqb-true _ _ all))

@@ -1,7 +1,7 @@
 -- Messages and the bytes that they are written as.
 use Rattle.std.specs.Prelude.{◌≡◌, true, List, [], ◌∷◌, pos, negsuc, codes}
 use Prim.Native.String.{String}
-use Rattle.std.specs.List.{AllByRecursion as All}
+use Rattle.std.specs.List.{AllByRecursion}
 use Rattle.wire.specs.Trees.{Message, int, boolean, string, double, date, base64, struct, array, none, member, end, value, call, response, fault}
 use Rattle.canonical.specs.Forms.{canonical}
 
@@ -29,4 +29,4 @@ known_forms = (
     ∷ []
 
 abbrev pub KnownForms : Type 0
-KnownForms = All (λ known. canonical known.0 ≡ codes known.1) known_forms
+KnownForms = AllByRecursion (λ known. canonical known.0 ≡ codes known.1) known_forms

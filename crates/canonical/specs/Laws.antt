@@ -1,6 +1,6 @@
 -- What the canonical form is sure to be.
 use Rattle.std.specs.Prelude.{◌≡◌, ℕ, ◌≤◌, true, List, length}
-use Rattle.std.specs.List.{AllByRecursion as All}
+use Rattle.std.specs.List.{AllByRecursion}
 use Rattle.wire.specs.Trees.{Message}
 use Rattle.characters.specs.References.{is_character}
 use Rattle.messages.specs.Answers.{IsMessage}
@@ -12,7 +12,7 @@ WrittenReadsBack = (msg : List ℕ) (m : Message) → IsMessage msg m → length
 
 -- the canonical form of any message, however long, is made of bytes that may stand in one
 abbrev pub CanonicalBytesAreGood : Type 0
-CanonicalBytesAreGood = (msg : List ℕ) (m : Message) → IsMessage msg m → All (λ b. is_character b ≡ true) (canonical m)
+CanonicalBytesAreGood = (msg : List ℕ) (m : Message) → IsMessage msg m → AllByRecursion (λ b. is_character b ≡ true) (canonical m)
 
 -- no two messages have the same canonical form, unless it is too long for one
 abbrev pub CanonicalTellsMessages : Type 0

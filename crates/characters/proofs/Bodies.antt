@@ -1,6 +1,6 @@
 -- References in a text: what stands between `&` and `;`.
 use Rattle.std.proofs.Common.{◌≡◌, ℕ, suc, ◌+◌, true, false, eqb, ltb, List, [], ◌∷◌, ◌++◌, length, take, drop, Some, sym, refl, ap, ◌∙◌, arith, length-append}
-use Rattle.std.specs.List.{AllByRecursion as All}
+use Rattle.std.specs.List.{AllByRecursion}
 use Rattle.std.proofs.lemmas.List.{drop-drop, drop_at, take_at}
 use Rattle.std.proofs.lemmas.Bool.{lt-ltb, ne_eqb}
 use Rattle.characters.specs.References.{referenced}
@@ -8,7 +8,7 @@ use Rattle.characters.specs.Decoding.{body_len, reference_at, unit_at, before, b
 use Rattle.characters.proofs.Steps.{decoded_skips, bad_skips}
 
 -- a body without `;` goes up to the `;` behind it
-pub body_ends : (body rest : List ℕ) → All (λ b. b ≡ 59 → ⊥) body → body_len (body ++ 59 ∷ rest) ≡ length body
+pub body_ends : (body rest : List ℕ) → AllByRecursion (λ b. b ≡ 59 → ⊥) body → body_len (body ++ 59 ∷ rest) ≡ length body
 body_ends [] rest h = refl
 body_ends (b ∷ body) rest h =
     let p : eqb b 59 ≡ false = ne_eqb b 59 h.0 in
@@ -16,7 +16,7 @@ body_ends (b ∷ body) rest h =
     let ih = body_ends body rest h.1 in
     e ∙ omega arith
 
-module _ (body rest : List ℕ) (c : ℕ) (no_end : All (λ b. b ≡ 59 → ⊥) body) (names : referenced body ≡ Some c) where
+module _ (body rest : List ℕ) (c : ℕ) (no_end : AllByRecursion (λ b. b ≡ 59 → ⊥) body) (names : referenced body ≡ Some c) where
   pub unit_of : unit_at 38 (body ++ 59 ∷ rest) ≡ Some (c, length body + 1)
   unfolding unit_at reference_at
   unit_of =

@@ -1,7 +1,7 @@
 -- The bytes of a reference's body are characters, and so is what it names.
 use Rattle.std.proofs.Common.{◌≡◌, ℕ, ◌≤◌, Bool, true, false, cond, ◌&&◌, eqb, ltb, leb, List, [], ◌∷◌, length, get_or, drop, Some, None, codes, Option, sym, refl, ap, ◌∙◌, subst, ⊎_elim, arith}
 use Rattle.std.specs.Str.Parse.{digits_value}
-use Rattle.std.specs.List.{AllByRecursion as All}
+use Rattle.std.specs.List.{AllByRecursion}
 use Rattle.std.specs.Str.{bytes_eq}
 use Rattle.std.proofs.ByRecursion.{All-weaker}
 use Rattle.std.proofs.lemmas.Slice.Eq.{bytes_eq-Decides}
@@ -11,7 +11,7 @@ use Rattle.characters.specs.References.{is_character, all_characters, is_digit_o
 use Rattle.characters.proofs.Leading.{all_from_leading, all_from_test}
 
 abbrev pub Good : List ℕ → Type 0
-Good bs = All (λ b. is_character b ≡ true) bs
+Good bs = AllByRecursion (λ b. is_character b ≡ true) bs
 
 digit_good : (radix b : ℕ) → radix ≤ 16 → is_digit_of radix b ≡ true → is_character b ≡ true
 digit_good radix b le h = grind (arith, nat_tests)

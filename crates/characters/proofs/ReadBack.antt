@@ -1,6 +1,6 @@
 -- Characters that are written are read again as they were.
 use Rattle.std.proofs.Common.{◌≡◌, ℕ, ◌+◌, true, List, [], ◌∷◌, ◌++◌, length, Some, None, codes, sym, refl, ap, ◌∙◌, subst, ⊎_elim, append_assoc}
-use Rattle.std.specs.List.{AllByRecursion as All}
+use Rattle.std.specs.List.{AllByRecursion}
 use Rattle.std.proofs.ByRecursion.{All-append}
 use Rattle.std.proofs.lemmas.Bool.{cases_eq, ne_eqb}
 use Rattle.characters.specs.References.{is_character, all_characters, referenced, numbered, numeral}
@@ -13,7 +13,7 @@ use Rattle.characters.proofs.Bodies.{reference_decodes, reference_good, byte_dec
 record Escaped (c : ℕ) : Type 0 where
   decodes : (rest : List ℕ) → decoded (escape c ++ rest) ≡ c ∷ decoded rest
   good : (rest : List ℕ) (at : ℕ) → (k : ℕ) × (first_bad_from at 0 (escape c ++ rest) ≡ first_bad_from k 0 rest)
-  bytes : All (λ b. is_character b ≡ true) (escape c)
+  bytes : AllByRecursion (λ b. is_character b ≡ true) (escape c)
 
 by_reference : (c : ℕ) (body : List ℕ) → body_len body ≡ length body → referenced body ≡ Some c → escape c ≡ 38 ∷ body ++ 59 ∷ [] → all_characters (38 ∷ body ++ 59 ∷ []) ≡ true → Escaped c
 by_reference c body h r e a =
@@ -22,7 +22,7 @@ by_reference c body h r e a =
     record {
       decodes = λ rest. ap decoded (spelt rest) ∙ reference_decodes body rest c none r;
       good = λ rest at. (at + 1 + (length body + 1), ap (first_bad_from at 0) (spelt rest) ∙ reference_good body rest c none r at);
-      bytes = subst (All (λ b. is_character b ≡ true)) (sym e) (all_from_test (38 ∷ body ++ 59 ∷ []) a);
+      bytes = subst (AllByRecursion (λ b. is_character b ≡ true)) (sym e) (all_from_test (38 ∷ body ++ 59 ∷ []) a);
     }
 
 -- the four that are written as references
@@ -50,7 +50,7 @@ itself c h a l g r =
     record {
       decodes = λ rest. ap (λ l. decoded (l ++ rest)) e ∙ byte_decodes c rest a r;
       good = λ rest at. (at + 1, ap (λ l. first_bad_from at 0 (l ++ rest)) e ∙ byte_good c rest a r at);
-      bytes = subst (All (λ b. is_character b ≡ true)) (sym e) (h, tt);
+      bytes = subst (AllByRecursion (λ b. is_character b ≡ true)) (sym e) (h, tt);
     }
 
 escaped : (c : ℕ) → is_character c ≡ true → Escaped c
@@ -61,15 +61,15 @@ escaped c h =
     ⊎_elim (λ e. subst Escaped (sym e) return) (λ r. itself c h a l g r)
     (cases_eq c 13)) (cases_eq c 62)) (cases_eq c 60)) (cases_eq c 38)
 
-characters_back : (cs : List ℕ) → All (λ b. is_character b ≡ true) cs → decoded (characters_spelling cs) ≡ cs
+characters_back : (cs : List ℕ) → AllByRecursion (λ b. is_character b ≡ true) cs → decoded (characters_spelling cs) ≡ cs
 characters_back [] h = refl
 characters_back (c ∷ cs) h = (escaped c h.0).decodes (characters_spelling cs) ∙ ap (λ l. c ∷ l) (characters_back cs h.1)
 
-references_good : (cs : List ℕ) (at : ℕ) → All (λ b. is_character b ≡ true) cs → first_bad_from at 0 (characters_spelling cs) ≡ None
+references_good : (cs : List ℕ) (at : ℕ) → AllByRecursion (λ b. is_character b ≡ true) cs → first_bad_from at 0 (characters_spelling cs) ≡ None
 references_good [] at h = refl
 references_good (c ∷ cs) at h = let g = (escaped c h.0).good (characters_spelling cs) at in g.1 ∙ references_good cs g.0 h.1
 
-bytes_good : (cs : List ℕ) → All (λ b. is_character b ≡ true) cs → All (λ b. is_character b ≡ true) (characters_spelling cs)
+bytes_good : (cs : List ℕ) → AllByRecursion (λ b. is_character b ≡ true) cs → AllByRecursion (λ b. is_character b ≡ true) (characters_spelling cs)
 bytes_good [] h = tt
 bytes_good (c ∷ cs) h = All-append (λ b. is_character b ≡ true) (escape c) (characters_spelling cs) (escaped c h.0).bytes (bytes_good cs h.1)
 

@@ -1,7 +1,7 @@
 -- The check passes just the texts of character data, and each has one reading.
 use Rattle.std.proofs.Common.{◌≡◌, ℕ, zero, suc, ◌+◌, ◌<◌, Bool, true, false, cond, eqb, ltb, List, [], ◌∷◌, ◌++◌, length, get_or, take, drop, Some, None, Err, Option, sym, refl, ap, ◌∙◌, subst, ⊎_elim, one-add, arith}
 use Rattle.std.specs.Option.{option_map}
-use Rattle.std.specs.List.{AllByRecursion as All}
+use Rattle.std.specs.List.{AllByRecursion}
 use Rattle.std.proofs.ByRecursion.{All-append}
 use Rattle.std.proofs.lemmas.Bool.{cases_eq, eq-eqb, ne_eqb, ltb-true, both_ways}
 use Rattle.characters.specs.References.{is_character, all_characters, referenced}
@@ -24,18 +24,18 @@ inverted true None n u e = absurd (never u e)
 inverted false o n u e = absurd (never u e)
 
 -- the body of a reference, its `;` and what follows
-split : (bs : List ℕ) → body_len bs < length bs → (bs ≡ take (body_len bs) bs ++ (59 ∷ drop (body_len bs + 1) bs)) × All (λ b. b ≡ 59 → ⊥) (take (body_len bs) bs)
+split : (bs : List ℕ) → body_len bs < length bs → (bs ≡ take (body_len bs) bs ++ (59 ∷ drop (body_len bs + 1) bs)) × AllByRecursion (λ b. b ≡ 59 → ⊥) (take (body_len bs) bs)
 split [] h = absurd (omega arith)
 split (b ∷ bs) h =
     ⊎_elim
     (λ (e : b ≡ 59).
     let n : body_len (b ∷ bs) ≡ 0 = simp (eq-eqb b 59 e) in
-    let P : ℕ → Type 0 = λ k. (b ∷ bs ≡ take k (b ∷ bs) ++ (59 ∷ drop (k + 1) (b ∷ bs))) × All (λ b. b ≡ 59 → ⊥) (take k (b ∷ bs)) in
+    let P : ℕ → Type 0 = λ k. (b ∷ bs ≡ take k (b ∷ bs) ++ (59 ∷ drop (k + 1) (b ∷ bs))) × AllByRecursion (λ b. b ≡ 59 → ⊥) (take k (b ∷ bs)) in
     subst P (sym n) (ap (λ c. c ∷ bs) e, tt))
     (λ (e : b ≡ 59 → ⊥).
     let n : body_len (b ∷ bs) ≡ suc (body_len bs) = (let s : body_len (b ∷ bs) ≡ 1 + body_len bs = simp (ne_eqb b 59 e) in s ∙ one-add (body_len bs)) in
     let ih = split bs (omega arith) in
-    let P : ℕ → Type 0 = λ k. (b ∷ bs ≡ take k (b ∷ bs) ++ (59 ∷ drop (k + 1) (b ∷ bs))) × All (λ b. b ≡ 59 → ⊥) (take k (b ∷ bs)) in
+    let P : ℕ → Type 0 = λ k. (b ∷ bs ≡ take k (b ∷ bs) ++ (59 ∷ drop (k + 1) (b ∷ bs))) × AllByRecursion (λ b. b ≡ 59 → ⊥) (take k (b ∷ bs)) in
     let next : suc (body_len bs) + 1 ≡ suc (body_len bs + 1) = omega arith in
     subst P (sym n) (ap (λ l. b ∷ l) ih.0 ∙ ap (λ k. b ∷ (take (body_len bs) bs ++ (59 ∷ drop k (b ∷ bs)))) (sym next), (e, ih.1)))
     (cases_eq b 59)

@@ -1,6 +1,6 @@
 -- Character data stands for characters, and how characters are written is character data that stands for them.
 use Rattle.std.proofs.Common.{◌≡◌, ℕ, true, not, eqb, List, [], ◌∷◌, length, sym, refl, ap, subst, ⊎_elim}
-use Rattle.std.specs.List.{prefix_len, AllByRecursion as All}
+use Rattle.std.specs.List.{prefix_len, AllByRecursion}
 use Rattle.std.proofs.ByRecursion.{All-append}
 use Rattle.std.proofs.lemmas.Bool.{cases_eq, ne_eqb}
 use Rattle.characters.specs.Rule.{CharacterData}
@@ -28,7 +28,7 @@ spelling_good cs good = all_from_test (characters_spelling cs) (reads_back cs (t
 
 -- no `<` is written
 abbrev pub NoLess : List ℕ → Type 0
-NoLess bs = All (λ b. not (eqb b 60) ≡ true) bs
+NoLess bs = AllByRecursion (λ b. not (eqb b 60) ≡ true) bs
 
 escape_no_less : (c : ℕ) → NoLess (escape c)
 unfolding escape

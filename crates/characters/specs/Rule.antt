@@ -1,6 +1,6 @@
 -- The rule of character data.
 use Rattle.std.specs.Prelude.{◌≡◌, ℕ, true, List, [], ◌∷◌, ◌++◌, length, Some, Result, MatchResult, ◌≢◌, slice_index}
-use Rattle.std.specs.List.{AllByRecursion as All}
+use Rattle.std.specs.List.{AllByRecursion}
 use Rattle.characters.specs.References.{is_character, referenced}
 use Rattle.characters.specs.Decoding.{decoded}
 use Rattle.characters.specs.declared.check.BadCharacters.{BadCharacters}
@@ -16,7 +16,7 @@ pub data CharacterData : List ℕ → List ℕ → Type 0 where
   -- and so does a carriage return with no line feed right behind it
   return_alone : {text cs : List ℕ} → (slice_index text 0 ≢ 10) → CharacterData text cs → CharacterData (13 ∷ text) (10 ∷ cs)
   -- `&`, a body up to the first `;`, and that stand for what the body names
-  reference : {c : ℕ} (body : List ℕ) {text cs : List ℕ} → All (λ b. b ≢ 59) body → referenced body ≡ Some c → CharacterData text cs → CharacterData (38 ∷ (body ++ (59 ∷ text))) (c ∷ cs)
+  reference : {c : ℕ} (body : List ℕ) {text cs : List ℕ} → AllByRecursion (λ b. b ≢ 59) body → referenced body ≡ Some c → CharacterData text cs → CharacterData (38 ∷ (body ++ (59 ∷ text))) (c ∷ cs)
 
 -- a text that is passed is character data and stands for its characters alone, which are so many; one that is refused is no character data
 abbrev pub Judges : List ℕ → Result ℕ BadCharacters → Type 0

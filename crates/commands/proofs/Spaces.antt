@@ -1,6 +1,6 @@
 -- Numbers behind spaces: the first one and the others.
 use Rattle.std.proofs.Common.{◌≡◌, ℕ, ◌<◌, ◌≤◌, min, true, false, List, [], ◌∷◌, ◌++◌, length, take, drop, sym, refl, ap, ◌∙◌, subst, append-nil, arith, take-append-drop}
-use Rattle.std.specs.List.{prefix_len, AllByRecursion as All}
+use Rattle.std.specs.List.{prefix_len, AllByRecursion}
 use Rattle.std.proofs.lemmas.List.{take_at, drop_at, length-take-le}
 use Rattle.std.proofs.lemmas.List.Sums.{prefix_len-le-length}
 use Rattle.texts.specs.Digits.{is_digit, worth}
@@ -8,7 +8,7 @@ use Rattle.texts.proofs.Fronts.{leading_all, leading_stops, all_leading}
 use Rattle.commands.specs.Numbers.{capped, Numeral, Spaced}
 
 -- digits in front of further numbers are all that lead
-digits_lead : (ds rest ns : List ℕ) → All (λ d. is_digit d ≡ true) ds → Spaced rest ns → prefix_len is_digit (ds ++ rest) ≡ length ds
+digits_lead : (ds rest ns : List ℕ) → AllByRecursion (λ d. is_digit d ≡ true) ds → Spaced rest ns → prefix_len is_digit (ds ++ rest) ≡ length ds
 unfolding Spaced
 digits_lead ds rest [] all e = ap (λ r. prefix_len is_digit (ds ++ r)) e ∙ ap (prefix_len is_digit) (append-nil ds) ∙ leading_all is_digit ds all
 digits_lead ds rest (n ∷ ns) all (more, after, e, num, sp) = ap (λ r. prefix_len is_digit (ds ++ r)) e ∙ leading_stops is_digit ds 32 (more ++ after) all refl

@@ -1,6 +1,6 @@
 -- A text that is a date is the spelling of its moment, and the spelling of a moment reads as that moment.
 use Rattle.std.proofs.Common.{◌≡◌, ℕ, ◌+◌, ◌-◌, ◌*◌, ◌/◌, ◌%◌, ◌≤◌, Bool, true, false, ◌&&◌, eqb, leb, List, [], ◌∷◌, ◌++◌, length, get_or, Some, None, sym, refl, ap, ◌∙◌, ⊎_elim, arith}
-use Rattle.std.specs.List.{AllByRecursion as All}
+use Rattle.std.specs.List.{AllByRecursion}
 use Rattle.std.proofs.ByRecursion.{All-append, All-weaker}
 use Rattle.std.proofs.lemmas.Slice.Eq.{text_from_reads}
 use Rattle.std.proofs.lemmas.Bool.{and_parts, and_from, and_left, leb-true, eqb-true, cond-true, cond-false, cases_Bool}
@@ -12,11 +12,11 @@ use Rattle.texts.proofs.Numerals.{all_padded}
 use Rattle.dates.specs.Calendar.{every, days_in}
 use Rattle.dates.specs.Moments.{Moment, is_moment, are_digits, is_shaped, moment_at, plain_date, date_of, date_spelling}
 
-every_all : (tests : List Bool) → every tests ≡ true → All (λ t. t ≡ true) tests
+every_all : (tests : List Bool) → every tests ≡ true → AllByRecursion (λ t. t ≡ true) tests
 every_all [] h = tt
 every_all (t ∷ ts) h = let p = and_parts t (every ts) h in (p.0, every_all ts p.1)
 
-all_every : (tests : List Bool) → All (λ t. t ≡ true) tests → every tests ≡ true
+all_every : (tests : List Bool) → AllByRecursion (λ t. t ≡ true) tests → every tests ≡ true
 all_every [] h = refl
 all_every (t ∷ ts) h = and_from t (every ts) h.0 (all_every ts h.1)
 
@@ -49,7 +49,7 @@ four a b c d h k =
     )
 
 -- the tests of the shape, one by one
-tests : (bs : List ℕ) → is_shaped bs ≡ true → All (λ t. t ≡ true) (
+tests : (bs : List ℕ) → is_shaped bs ≡ true → AllByRecursion (λ t. t ≡ true) (
     eqb (length bs) 17 ∷ are_digits bs 0 ∷ are_digits bs 2 ∷ are_digits bs 4 ∷ are_digits bs 6 ∷ eqb (get_or bs 8 0) 84 ∷
     are_digits bs 9 ∷ eqb (get_or bs 11 0) 58 ∷ are_digits bs 12 ∷ eqb (get_or bs 14 0) 58 ∷ are_digits bs 15 ∷ [])
 tests bs h = every_all (
@@ -139,7 +139,7 @@ moment_again m h =
     (λ i. record { year = year i; month = month i; day = day i; hour = hour i; minute = minute i; second = second i })
 
 -- what holds of `T`, `:` and digits holds of every byte of a date
-pub all_date : (P : ℕ → Type 0) → P 84 → P 58 → ((d : ℕ) → is_digit d ≡ true → P d) → (m : Moment) → All P (date_spelling m)
+pub all_date : (P : ℕ → Type 0) → P 84 → P 58 → ((d : ℕ) → is_digit d ≡ true → P d) → (m : Moment) → AllByRecursion P (date_spelling m)
 all_date P mark colon digit m =
     let seconds = 58 ∷ padded 2 m.second in
     let minutes = 58 ∷ (padded 2 m.minute ++ seconds) in
@@ -148,10 +148,10 @@ all_date P mark colon digit m =
     front 4 m.year (padded 2 m.month ++ days)
     (front 2 m.month days
     (front 2 m.day hours (mark, front 2 m.hour minutes (colon, front 2 m.minute seconds (colon, digits_are 2 m.second))))) where
-      digits_are : (w n : ℕ) → All P (padded w n)
+      digits_are : (w n : ℕ) → AllByRecursion P (padded w n)
       digits_are w n = All-weaker (λ d. is_digit d ≡ true) P digit (padded w n) (all_padded w n)
 
-      front : (w n : ℕ) (rest : List ℕ) → All P rest → All P (padded w n ++ rest)
+      front : (w n : ℕ) (rest : List ℕ) → AllByRecursion P rest → AllByRecursion P (padded w n ++ rest)
       front w n rest h = All-append P (padded w n) rest (digits_are w n) h
 
 some_same : {X : Type 0} (x y : X) → Some x ≡ Some y → x ≡ y

@@ -1,6 +1,6 @@
 -- The texts of a message that was read lie in its bytes.
 use Rattle.std.proofs.Common.{◌≡◌, ℕ, zero, suc, Bool, true, false, cond, eqb, ltb, List, [], ◌∷◌, map, length, take, drop, Some, None, Ok, Err, Option, Result, sym, refl, ap, ◌∙◌, subst}
-use Rattle.std.specs.List.{prefix_len, AllByRecursion as All}
+use Rattle.std.specs.List.{prefix_len, AllByRecursion}
 use Rattle.wire.specs.declared.row.Store.{Store}
 use Rattle.wire.specs.declared.row.Store.TheVariants as store
 use Rattle.wire.specs.declared.row.Span.{Span}
@@ -101,24 +101,24 @@ run_row_lem (Struct m) t p bs = struct_run_lem m p bs
 run_row_lem (Array m) t p bs = blank_run_lem p bs
 run_row_lem Finished t p bs = blank_run_lem p bs
 
-put_row : (rs : List Row) (n : ℕ) (r : Row) → All InMessage rs → InMessage r → All InMessage (put_at rs n r)
+put_row : (rs : List Row) (n : ℕ) (r : Row) → AllByRecursion InMessage rs → InMessage r → AllByRecursion InMessage (put_at rs n r)
 put_row [] n r all h = (h, tt)
 put_row (x ∷ xs) zero r all h = (h, all.1)
 put_row (x ∷ xs) (suc n) r all h = (all.0, put_row xs n r all.1 h)
 
 -- the rows so far, and the names in what is open
 abbrev Held : St → Type 0
-Held (st m fs u rs) = All (λ f. Lies f.name) fs × All InMessage rs
+Held (st m fs u rs) = AllByRecursion (λ f. Lies f.name) fs × AllByRecursion InMessage rs
 
-leaves : (fs : List Frame) (u : ℕ) (rs : List Row) → All (λ f. Lies f.name) fs → All InMessage rs → Held (leave fs u rs)
+leaves : (fs : List Frame) (u : ℕ) (rs : List Row) → AllByRecursion (λ f. Lies f.name) fs → AllByRecursion InMessage rs → Held (leave fs u rs)
 leaves [] u rs a b = (tt, b)
 leaves (f ∷ fs) u rs a b = ((a.0, a.1), b)
 
-nests : (room : Bool) (s : _) (fs : List Frame) (q u : ℕ) (rs : List Row) → All (λ f. Lies f.name) fs → All InMessage rs → Good Held (nest put_at room s fs q u rs)
+nests : (room : Bool) (s : _) (fs : List Frame) (q u : ℕ) (rs : List Row) → AllByRecursion (λ f. Lies f.name) fs → AllByRecursion InMessage rs → Good Held (nest put_at room s fs q u rs)
 nests true s fs q u rs a b = ((refl, a), put_row rs u _ b refl)
 nests false s fs q u rs a b = tt
 
-acts : (does : Option Move) (q : ℕ) (r : Row) (fs : List Frame) (u : ℕ) (rs : List Row) → InMessage r → All (λ f. Lies f.name) fs → All InMessage rs → Good Held (act put_at 16 does q r fs u rs)
+acts : (does : Option Move) (q : ℕ) (r : Row) (fs : List Frame) (u : ℕ) (rs : List Row) → InMessage r → AllByRecursion (λ f. Lies f.name) fs → AllByRecursion InMessage rs → Good Held (act put_at 16 does q r fs u rs)
 acts None q r fs u rs h a b = tt
 acts (Some (move.Enter m)) q r fs u rs h a b = (a, b)
 acts (Some (move.Emit m)) q r fs u rs h a b = (a, put_row rs u r b h)
@@ -151,27 +151,27 @@ judges s p r (broken q) len h = tt
 judges s p r (run p' r' then ps) len h = judges s p' r' ps len h
 judges s p r (tag q t then ps) len h = and_then_lem Held Held (step put_at 16 s p r q t) (λ s'. judge put_at 16 s' 0 [] ps len) (steps s p r q t h) (λ s' h'. judges s' 0 [] ps len h')
 
-rows_in_lem : (r : Result St Refusal) → Good Held r → Good (All InMessage) (rows_in r)
+rows_in_lem : (r : Result St Refusal) → Good Held r → Good (AllByRecursion InMessage) (rows_in r)
 rows_in_lem (Ok (st m fs u rs)) h = h.1
 rows_in_lem (Err e) h = tt
 
-reads : (msg : List ℕ) (o : Option ℕ) → Good (All InMessage) (rows_in (read_from put_at msg [] o))
+reads : (msg : List ℕ) (o : Option ℕ) → Good (AllByRecursion InMessage) (rows_in (read_from put_at msg [] o))
 reads msg None = tt
 reads msg (Some n) =
     let parts = parts_from n (drop n msg) in
     rows_in_lem (judge put_at 16 (st Start [] 0 []) 0 [] parts (length msg)) (judges (st Start [] 0 []) 0 [] parts (length msg) (tt, tt))
 
-checked : (a b : Bool) (d e : Refusal) (r : Result (List Row) Refusal) → Good (All InMessage) r → Good (All InMessage) (cond a (Err d) (cond b r (Err e)))
+checked : (a b : Bool) (d e : Refusal) (r : Result (List Row) Refusal) → Good (AllByRecursion InMessage) r → Good (AllByRecursion InMessage) (cond a (Err d) (cond b r (Err e)))
 checked true b d e r h = tt
 checked false true d e r h = h
 checked false false d e r h = tt
 
-whole : (msg : List ℕ) → Good (All InMessage) (rows_of msg)
+whole : (msg : List ℕ) → Good (AllByRecursion InMessage) (rows_of msg)
 unfolding rows_of
 whole msg = checked (ltb 65536 (length msg)) (eqb (prefix_len is_character msg) (length msg)) _ _ (rows_in (reading put_at msg [])) (reads msg (declaration_len msg))
 
-pub texts_in_message : (msg : List ℕ) (rs : List Row) → rows_of msg ≡ Ok rs → All InMessage rs
-texts_in_message msg rs e = subst (Good (All InMessage)) e (whole msg)
+pub texts_in_message : (msg : List ℕ) (rs : List Row) → rows_of msg ≡ Ok rs → AllByRecursion InMessage rs
+texts_in_message msg rs e = subst (Good (AllByRecursion InMessage)) e (whole msg)
 
 -- so rows that were read say as a held message what they say as read
 said_as_read : (msg : List ℕ) (r : Row) → InMessage r → said_by msg [] r ≡ content_of msg r
@@ -179,7 +179,7 @@ said_as_read msg r e =
     let with_store : Store → Content = λ s. record { kind = r.kind; count = r.count; number = r.number; scale = r.scale; text = text_by s r (take r.text.len (drop r.text.start (memory_of msg [] s))) } in
     ap with_store e
 
-each_as_read : (msg : List ℕ) (rs : List Row) → All InMessage rs → map (said_by msg []) rs ≡ map (content_of msg) rs
+each_as_read : (msg : List ℕ) (rs : List Row) → AllByRecursion InMessage rs → map (said_by msg []) rs ≡ map (content_of msg) rs
 each_as_read msg [] all = refl
 each_as_read msg (r ∷ rs) all = λ i. said_as_read msg r all.0 i ∷ each_as_read msg rs all.1 i
 

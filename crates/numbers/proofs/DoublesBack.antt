@@ -2,7 +2,7 @@
 use Rattle.std.proofs.Common.{◌≡◌, ℕ, zero, suc, ◌+◌, ◌-◌, ◌*◌, ◌/◌, ◌%◌, ◌^◌, ◌<◌, ◌≤◌, max, Bool, true, false, cond, ◌&&◌, ◌||◌, eqb, leb, ◌⊎◌, List, [], ◌∷◌, ◌++◌, length, take, drop, set, ℤ, pos, negsuc, nat_abs, Some, None, decimal, Option, sym, refl, ap, ◌∙◌, subst, inl, inr, ⊎_elim, append_assoc, pow-suc, div-le_self, div-one, arith, length-append, length-drop}
 use native.Mathlib.Nat.{mod-add-div'}
 use borrow.Rule.Slice.PartMut.{put_mid}
-use Rattle.std.specs.List.{prefix_len, suffix_len, AllByRecursion as All}
+use Rattle.std.specs.List.{prefix_len, suffix_len, AllByRecursion}
 use Rattle.std.proofs.lemmas.Nat.{div_below, pow-add}
 use Rattle.std.proofs.lemmas.Fmt.{decimal_digit, decimal_nonempty, length-decimal-le}
 use Rattle.std.proofs.ByRecursion.{All-append, All-weaker}
@@ -113,7 +113,7 @@ all_fraction : (n scale : ℕ) → AllDigits (fraction_spelling n scale)
 all_fraction n scale = all_padded (max scale 1) (cond (eqb scale 0) 0 n)
 
 -- what holds of a minus, a point and digits holds of every byte of a sign, digits, a point and digits
-all_pointed : (P : ℕ → Type 0) → P 45 → P 46 → ((d : ℕ) → is_digit d ≡ true → P d) → (minus : Bool) (m n scale : ℕ) → m < 2 ^ 64 → All P (signed_spelling minus m ++ (46 ∷ fraction_spelling n scale))
+all_pointed : (P : ℕ → Type 0) → P 45 → P 46 → ((d : ℕ) → is_digit d ≡ true → P d) → (minus : Bool) (m n scale : ℕ) → m < 2 ^ 64 → AllByRecursion P (signed_spelling minus m ++ (46 ∷ fraction_spelling n scale))
 all_pointed P sign point digit minus m n scale fits =
     All-append P (signed_spelling minus m) (46 ∷ fraction_spelling n scale) (all_signed P sign digit minus m fits)
     (point, All-weaker (λ d. is_digit d ≡ true) P digit (fraction_spelling n scale) (all_fraction n scale))
@@ -133,7 +133,7 @@ double_reads minus n scale small le tail =
     let aw = all_decimal m fits in
     let lw = decimal_nonempty m fits in
     let lf : 0 < length fs = omega (arith, length-fraction n scale) in
-    let bare : All (λ b. is_blank b ≡ false) text = all_pointed (λ b. is_blank b ≡ false) refl refl digit_bare minus m n scale fits in
+    let bare : AllByRecursion (λ b. is_blank b ≡ false) text = all_pointed (λ b. is_blank b ≡ false) refl refl digit_bare minus m n scale fits in
     let parts = signed_parts minus (decimal m) (46 ∷ fs) aw lw in
     let counts = fraction_counts n scale tail in
     let few : length (counted (decimal m) fs) ≤ 18 = omega (arith, length-append (counted_whole (decimal m)) (counted_fraction fs), few_whole n scale small le, counts.0) in
@@ -151,7 +151,7 @@ double_reads_back z scale h =
     let tail : (scale ≡ 0) ⊎ (1 ≤ nat_abs z % 10) = ⊎_elim (λ e. inl (eqb-true scale 0 e)) (λ e. inr (leb-true 1 (nat_abs z % 10) e)) (or_cases (eqb scale 0) (leb 1 (nat_abs z % 10)) q.1) in
     double_reads (is_negative z) (nat_abs z) scale (omega (arith, small)) (leb-true scale 18 q.0) tail ∙ ap (λ k. Some (k, scale)) (signed_whole z)
 
-pub all_double : (P : ℕ → Type 0) → P 45 → P 46 → ((d : ℕ) → is_digit d ≡ true → P d) → (z : ℤ) (scale : ℕ) → is_double z scale ≡ true → All P (double_spelling z scale)
+pub all_double : (P : ℕ → Type 0) → P 45 → P 46 → ((d : ℕ) → is_digit d ≡ true → P d) → (z : ℤ) (scale : ℕ) → is_double z scale ≡ true → AllByRecursion P (double_spelling z scale)
 all_double P sign point digit z scale h =
     let small = leb-true (nat_abs z + 1) (10 ^ 18) (and_parts (leb (nat_abs z + 1) (10 ^ 18)) (leb scale 18 && (eqb scale 0 || leb 1 (nat_abs z % 10))) h).0 in
     all_pointed P sign point digit (is_negative z) (nat_abs z / 10 ^ scale) (nat_abs z) scale (whole_fits (nat_abs z) scale (omega (arith, small)))

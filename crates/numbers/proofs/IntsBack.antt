@@ -1,6 +1,6 @@
 -- The spelling of an int reads as that int.
 use Rattle.std.proofs.Common.{◌≡◌, ℕ, suc, ◌^◌, ◌<◌, ◌≤◌, Bool, true, false, ◌&&◌, eqb, leb, List, length, get_or, ℤ, pos, negsuc, Some, decimal, refl, ap, ◌∙◌, arith, w32, SFits}
-use Rattle.std.specs.List.{AllByRecursion as All}
+use Rattle.std.specs.List.{AllByRecursion}
 use Rattle.std.proofs.lemmas.Fmt.{decimal_nonempty}
 use Rattle.std.proofs.ByRecursion.{All-get_or, All-weaker}
 use Rattle.std.proofs.lemmas.Bool.{le-leb, le-ltb, eq-eqb, and_from, cond-true}
@@ -14,7 +14,7 @@ use Rattle.numbers.specs.Signs.{is_minus, after_sign, signed, signed_spelling, i
 use Rattle.numbers.specs.Ints.{is_numeral, largest, signed_int, plain_int, int_of, int_spelling}
 
 -- digits begin with no sign
-pub first_digit : (ds : List ℕ) → All (λ d. is_digit d ≡ true) ds → 0 < length ds → is_digit (get_or ds 0 0) ≡ true
+pub first_digit : (ds : List ℕ) → AllByRecursion (λ d. is_digit d ≡ true) ds → 0 < length ds → is_digit (get_or ds 0 0) ≡ true
 first_digit ds h some = All-get_or (λ d. is_digit d ≡ true) ds 0 0 some h
 
 pub no_sign : (bs : List ℕ) → is_digit (get_or bs 0 0) ≡ true → (is_minus bs ≡ false) × (after_sign bs ≡ bs)
@@ -29,11 +29,11 @@ numeral_decimal n small =
     (eq-eqb _ _ (leading_all is_digit (decimal n) (all_decimal n small)))
 
 -- what holds of a minus and of digits holds of every byte of a magnitude with its sign
-pub all_signed : (P : ℕ → Type 0) → P 45 → ((d : ℕ) → is_digit d ≡ true → P d) → (minus : Bool) (n : ℕ) → n < 2 ^ 64 → All P (signed_spelling minus n)
+pub all_signed : (P : ℕ → Type 0) → P 45 → ((d : ℕ) → is_digit d ≡ true → P d) → (minus : Bool) (n : ℕ) → n < 2 ^ 64 → AllByRecursion P (signed_spelling minus n)
 all_signed P sign digit true n small = (sign, All-weaker (λ d. is_digit d ≡ true) P digit (decimal n) (all_decimal n small))
 all_signed P sign digit false n small = All-weaker (λ d. is_digit d ≡ true) P digit (decimal n) (all_decimal n small)
 
-pub bare_signed : (minus : Bool) (n : ℕ) → n < 2 ^ 64 → All (λ b. is_blank b ≡ false) (signed_spelling minus n)
+pub bare_signed : (minus : Bool) (n : ℕ) → n < 2 ^ 64 → AllByRecursion (λ b. is_blank b ≡ false) (signed_spelling minus n)
 bare_signed = all_signed (λ b. is_blank b ≡ false) refl digit_bare
 
 -- a text whose sign and digits are known
@@ -54,6 +54,6 @@ int_reads_back (pos n) f =
     ap (λ minus. int_of (signed_spelling minus n)) (le-ltb n 0 (omega arith)) ∙ signed_reads false n (omega arith) (omega arith)
 int_reads_back (negsuc n) f = let h = f.sfits in signed_reads true (suc n) (omega arith) (omega arith)
 
-pub all_int : (P : ℕ → Type 0) → P 45 → ((d : ℕ) → is_digit d ≡ true → P d) → (z : ℤ) → SFits w32 z → All P (int_spelling z)
+pub all_int : (P : ℕ → Type 0) → P 45 → ((d : ℕ) → is_digit d ≡ true → P d) → (z : ℤ) → SFits w32 z → AllByRecursion P (int_spelling z)
 all_int P sign digit (pos n) f = let h = f.sfits in all_signed P sign digit (is_negative (pos n)) n (omega arith)
 all_int P sign digit (negsuc n) f = let h = f.sfits in all_signed P sign digit true (suc n) (omega arith)

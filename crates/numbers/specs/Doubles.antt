@@ -1,6 +1,6 @@
 -- Doubles: an optional sign, one or more digits, and optionally a point and one or more digits.
 use Rattle.std.specs.Prelude.{◌≡◌, ℕ, ◌+◌, ◌-◌, ◌/◌, ◌%◌, ◌^◌, max, Bool, true, cond, ◌&&◌, ◌||◌, List, ◌∷◌, ◌++◌, length, take, drop, ℤ, Some, None, Option, ◌==◌, nat_le, slice_index, unsigned_abs}
-use Rattle.std.specs.List.{prefix_len, suffix_len, AllByRecursion as All}
+use Rattle.std.specs.List.{prefix_len, suffix_len, AllByRecursion}
 use Rattle.texts.specs.Bytes.{within, unblanked}
 use Rattle.texts.specs.Digits.{is_digit, worth, padded}
 use Rattle.numbers.specs.Signs.{is_minus, after_sign, signed, signed_spelling, is_negative}
@@ -10,7 +10,7 @@ abbrev pub is_zero : ℕ → Bool
 is_zero b = within 48 48 b
 
 abbrev pub AllDigits : List ℕ → Type 0
-AllDigits ds = All (λ d. is_digit d ≡ true) ds
+AllDigits ds = AllByRecursion (λ d. is_digit d ≡ true) ds
 
 -- the digits at the front, and what follows them
 abbrev pub whole : List ℕ → List ℕ

@@ -1,6 +1,6 @@
 -- A tag is found exactly where it is spelled.
 use Rattle.std.proofs.Common.{◌≡◌, ℕ, suc, ◌+◌, ◌<◌, ◌≤◌, Bool, true, false, cond, not, ◌&&◌, ◌||◌, eqb, List, [], ◌∷◌, ◌++◌, length, get_or, take, drop, Some, None, codes, Option, sym, refl, ap, ◌∙◌, subst, ⊎_elim, append_assoc, arith}
-use Rattle.std.specs.List.{prefix_len, AllByRecursion as All}
+use Rattle.std.specs.List.{prefix_len, AllByRecursion}
 use Rattle.std.specs.Str.{bytes_eq}
 use Rattle.std.proofs.lemmas.Slice.Eq.{bytes_eq-Decides}
 use Rattle.std.proofs.lemmas.List.{drop-drop, take-append-drop, length-append, take_all, take_at, drop_at, get_or-append-add, drop_more, get_or_past, length-take-le}
@@ -40,10 +40,10 @@ name_leads Double = refl
 name_leads DateTime = refl
 name_leads Base64 = refl
 
-name_all : (n : Name) → All (λ b. in_name b ≡ true) (spelled n)
+name_all : (n : Name) → AllByRecursion (λ b. in_name b ≡ true) (spelled n)
 name_all n =
     let whole : length (spelled n) ≤ prefix_len in_name (spelled n) = omega (arith, name_leads n) in
-    subst (All (λ b. in_name b ≡ true)) (take_all (prefix_len in_name (spelled n)) (spelled n) whole) (all_leading in_name (spelled n))
+    subst (AllByRecursion (λ b. in_name b ≡ true)) (take_all (prefix_len in_name (spelled n)) (spelled n) whole) (all_leading in_name (spelled n))
 
 not_slash : (n : Name) (bs : List ℕ) → eqb (get_or (spelled n ++ bs) 0 0) 47 ≡ false
 not_slash MethodCall bs = refl
@@ -91,7 +91,7 @@ module _ (n : Name) (blanks : List ℕ) (h : AreBlank blanks) (c : ℕ) (bs : Li
   name_ends [] k = leading_none in_name (c ∷ bs) cn
   name_ends (b ∷ l) k = leading_none in_name (b ∷ (l ++ (c ∷ bs))) (ap (λ v. not (v || (eqb b 47 || (eqb b 62 || eqb b 60)))) k.0)
 
-  name_behind : (w : List ℕ) → All (λ b. in_name b ≡ true) w → prefix_len in_name (w ++ (blanks ++ (c ∷ bs))) ≡ length w
+  name_behind : (w : List ℕ) → AllByRecursion (λ b. in_name b ≡ true) w → prefix_len in_name (w ++ (blanks ++ (c ∷ bs))) ≡ length w
   name_behind [] k = name_ends blanks h
   name_behind (b ∷ w) k = cond-true (in_name b) _ _ k.0 ∙ omega (arith, name_behind w k.1)
 

@@ -1,6 +1,6 @@
 -- How a message is cut into its parts.
 use Rattle.std.specs.Prelude.{◌≡◌, ℕ, zero, suc, ◌+◌, Bool, true, false, cond, not, List, [], ◌∷◌, ◌++◌, length, take, drop, Some, None, codes, Option, ◌==◌, ◌≢◌}
-use Rattle.std.specs.List.{prefix_len, AllByRecursion as All}
+use Rattle.std.specs.List.{prefix_len, AllByRecursion}
 use Rattle.texts.specs.Bytes.{is_blank}
 use Rattle.parts.specs.declared.name.Name.{Name}
 use Rattle.parts.specs.declared.tag.Tag.{Tag}
@@ -32,10 +32,10 @@ abbrev pub in_run : ℕ → Bool
 in_run b = not (b == 60)
 
 abbrev pub IsRun : List ℕ → Type 0
-IsRun bs = All (λ b. in_run b ≡ true) bs
+IsRun bs = AllByRecursion (λ b. in_run b ≡ true) bs
 
 abbrev pub AreBlank : List ℕ → Type 0
-AreBlank bs = All (λ b. is_blank b ≡ true) bs
+AreBlank bs = AllByRecursion (λ b. is_blank b ≡ true) bs
 
 -- how a tag is spelled behind its `<`, and whether it ends in `/>`
 pub data Spells : Tag → Bool → List ℕ → Type 0 where

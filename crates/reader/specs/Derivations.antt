@@ -1,6 +1,6 @@
 -- Which bytes the grammar derives as a message, and that the reading agrees.
 use Rattle.std.specs.Prelude.{◌≡◌, ℕ, ◌≤◌, true, List, map, length, drop, Some, Ok}
-use Rattle.std.specs.List.{AllByRecursion as All}
+use Rattle.std.specs.List.{AllByRecursion}
 use Rattle.wire.specs.declared.row.Row.{Row}
 use Rattle.wire.specs.Trees.{Message, message_rows}
 use Rattle.characters.specs.References.{is_character}
@@ -13,7 +13,7 @@ use Rattle.reader.specs.Reading.{rows_of}
 -- not too many bytes, all of which may stand in a message, whose parts behind the declaration are a message
 pub record Derives (msg : List ℕ) (m : Message) : Type 0 where
   pub short : length msg ≤ 65536
-  pub bytes : All (λ b. is_character b ≡ true) msg
+  pub bytes : AllByRecursion (λ b. is_character b ≡ true) msg
   pub start : ℕ
   pub declared : declaration_len msg ≡ Some start
   pub parts : Parts

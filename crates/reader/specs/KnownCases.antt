@@ -1,7 +1,7 @@
 -- Cases at the edges of the rules that the definitions are sure to give.
 use Rattle.std.specs.Prelude.{◌≡◌, ℕ, true, false, List, [], ◌∷◌, ℤ, pos, negsuc, Some, None, Err, codes}
 use Prim.Native.String.{String}
-use Rattle.std.specs.List.{AllByRecursion as All}
+use Rattle.std.specs.List.{AllByRecursion}
 use Rattle.wire.specs.declared.refusal.Refusal.{Refusal}
 use Rattle.wire.specs.declared.refusal.Refusal.TheVariants.{Unfinished, BadText, MisplacedTag}
 use Rattle.numbers.specs.Ints.{int_of}
@@ -50,4 +50,4 @@ known_cases =
     ∷ []
 
 abbrev pub KnownCases : Type 0
-KnownCases = All Holds known_cases
+KnownCases = AllByRecursion Holds known_cases

@@ -1,7 +1,7 @@
 -- What digits are worth, and the digits that are written of a number.
 use Rattle.std.proofs.Common.{◌≡◌, ℕ, zero, suc, ◌+◌, ◌-◌, ◌*◌, ◌/◌, ◌%◌, ◌^◌, ◌<◌, ◌≤◌, true, List, [], ◌∷◌, ◌++◌, length, get_or, decimal, sym, refl, ap, ◌∙◌, subst, mul_assoc, pow-suc, arith}
 use native.Mathlib.Nat.{pow-succ', mod-add-div, mod-one, div-div-eq-div-mul}
-use Rattle.std.specs.List.{AllByRecursion as All}
+use Rattle.std.specs.List.{AllByRecursion}
 use Rattle.std.proofs.lemmas.Fmt.{decimal_by_steps}
 use Rattle.std.proofs.ByRecursion.{All-push, All-get_or}
 use Rattle.std.proofs.lemmas.List.{length_push}
@@ -18,14 +18,14 @@ worth_after-append n [] es = refl
 worth_after-append n (d ∷ ds) es = worth_after-append (n * 10 + (d - 48)) ds es
 
 -- each of the digits lies from `0` to `9`
-pub digit_at : (ds : List ℕ) (i : ℕ) → All (λ d. is_digit d ≡ true) ds → i < length ds → (48 ≤ get_or ds i 0) × (get_or ds i 0 ≤ 57)
+pub digit_at : (ds : List ℕ) (i : ℕ) → AllByRecursion (λ d. is_digit d ≡ true) ds → i < length ds → (48 ≤ get_or ds i 0) × (get_or ds i 0 ≤ 57)
 digit_at ds i h lt = let p = All-get_or (λ d. is_digit d ≡ true) ds i 0 lt h in grind (arith, nat_tests)
 
 pub length-padded : (w n : ℕ) → length (padded w n) ≡ w
 length-padded zero n = refl
 length-padded (suc w) n = omega (arith, length_push (padded w (n / 10)) (48 + n % 10), length-padded w (n / 10))
 
-pub all_padded : (w n : ℕ) → All (λ d. is_digit d ≡ true) (padded w n)
+pub all_padded : (w n : ℕ) → AllByRecursion (λ d. is_digit d ≡ true) (padded w n)
 all_padded zero n = tt
 all_padded (suc w) n = All-push (λ d. is_digit d ≡ true) (padded w (n / 10)) (48 + n % 10) (all_padded w (n / 10)) (grind (arith, nat_tests))
 
@@ -39,8 +39,8 @@ decimal_worth = decimal_by_steps (λ n ds. (ds ≡ padded (length ds) n) × (wor
       worth_after-append 0 ds ((48 + n % 10) ∷ []) ∙ omega (arith, h.1),
     ))
 
-pub all_decimal : (n : ℕ) → n < 2 ^ 64 → All (λ d. is_digit d ≡ true) (decimal n)
-all_decimal n small = subst (All (λ d. is_digit d ≡ true)) (sym (decimal_worth n small).0) (all_padded (length (decimal n)) n)
+pub all_decimal : (n : ℕ) → n < 2 ^ 64 → AllByRecursion (λ d. is_digit d ≡ true) (decimal n)
+all_decimal n small = subst (AllByRecursion (λ d. is_digit d ≡ true)) (sym (decimal_worth n small).0) (all_padded (length (decimal n)) n)
 
 -- the last digits of a number: those of a tenth of it, and one more
 mod_step : (w n : ℕ) → n % 10 ^ suc w ≡ n / 10 % 10 ^ w * 10 + n % 10

@@ -1,6 +1,6 @@
 -- Past the first row of a message stand the rows of values and members alone.
 use Rattle.std.proofs.Common.{◌≡◌, ◌≤◌, List, refl, ap, inl, inr, arith, lit≤}
-use Rattle.std.specs.List.{AllByRecursion as All}
+use Rattle.std.specs.List.{AllByRecursion}
 use Rattle.std.proofs.ByRecursion.{All-append, All-weaker}
 use Rattle.wire.specs.declared.kind.Kind.{Kind}
 use Rattle.wire.specs.declared.kind.Kind.TheVariants as kind
@@ -15,7 +15,7 @@ Inner row = 4 ≤ kind_number row.kind
 mutual
   unfolding value_rows members_rows values_rows
 
-  inner_value : (v : Value) → All Inner (value_rows v)
+  inner_value : (v : Value) → AllByRecursion Inner (value_rows v)
   inner_value (int n) = (lit≤ tt, tt)
   inner_value (boolean b) = (lit≤ tt, tt)
   inner_value (string text) = (lit≤ tt, tt)
@@ -25,11 +25,11 @@ mutual
   inner_value (struct ms) = (lit≤ tt, inner_members ms)
   inner_value (array vs) = (lit≤ tt, inner_values vs)
 
-  inner_members : (ms : Members) → All Inner (members_rows ms)
+  inner_members : (ms : Members) → AllByRecursion Inner (members_rows ms)
   inner_members none = tt
   inner_members (member name v rest) = (lit≤ tt, All-append Inner (value_rows v) (members_rows rest) (inner_value v) (inner_members rest))
 
-  inner_values : (vs : Values) → All Inner (values_rows vs)
+  inner_values : (vs : Values) → AllByRecursion Inner (values_rows vs)
   inner_values end = tt
   inner_values (value v rest) = All-append Inner (value_rows v) (values_rows rest) (inner_value v) (inner_values rest)
 
@@ -38,7 +38,7 @@ inner_not_opening row h (inl e) = omega (arith, ap kind_number e)
 inner_not_opening row h (inr (inl e)) = omega (arith, ap kind_number e)
 inner_not_opening row h (inr (inr e)) = omega (arith, ap kind_number e)
 
-unopened : (rows : List Content) → All Inner rows → All (λ row. Opens row.kind → ⊥) rows
+unopened : (rows : List Content) → AllByRecursion Inner rows → AllByRecursion (λ row. Opens row.kind → ⊥) rows
 unopened = All-weaker Inner (λ row. Opens row.kind → ⊥) inner_not_opening
 
 pub first_row_opens : FirstRowOpens
@@ -49,7 +49,7 @@ first_row_opens (fault v) = (_, _, refl, inr (inr refl), unopened (value_rows v)
 inner_not_blank : (row : Content) → Inner row → row.kind ≡ kind.Blank → ⊥
 inner_not_blank row h e = omega (arith, ap kind_number e)
 
-unblank : (rows : List Content) → All Inner rows → All (λ row. row.kind ≡ kind.Blank → ⊥) rows
+unblank : (rows : List Content) → AllByRecursion Inner rows → AllByRecursion (λ row. row.kind ≡ kind.Blank → ⊥) rows
 unblank = All-weaker Inner (λ row. row.kind ≡ kind.Blank → ⊥) inner_not_blank
 
 opening_not_blank : (k : Kind) → Opens k → k ≡ kind.Blank → ⊥
