@@ -118,13 +118,13 @@ nests : (room : Bool) (s : _) (fs : List Frame) (q u : ℕ) (rs : List Row) → 
 nests true s fs q u rs a b = ((refl, a), put_row rs u _ b refl)
 nests false s fs q u rs a b = tt
 
-acts : (does : Option Move) (q : ℕ) (r : Row) (fs : List Frame) (u : ℕ) (rs : List Row) → InMessage r → AllByRecursion (λ f. Lies f.name) fs → AllByRecursion InMessage rs → Good Held (act put_at 16 does q r fs u rs)
+acts : (does : Option Move) (q : ℕ) (r : Row) (fs : List Frame) (u : ℕ) (rs : List Row) → InMessage r → AllByRecursion (λ f. Lies f.name) fs → AllByRecursion InMessage rs → Good Held (act put_at does q r fs u rs)
 acts None q r fs u rs h a b = tt
 acts (Some (move.Enter m)) q r fs u rs h a b = (a, b)
 acts (Some (move.Emit m)) q r fs u rs h a b = (a, put_row rs u r b h)
 acts (Some move.Word) q r fs u rs h a b = leaves fs _ _ a (put_row rs u r b h)
 acts (Some move.Leave) q r fs u rs h a b = leaves fs u rs a b
-acts (Some (move.Nest s)) q r fs u rs h a b = nests (room_for 16 fs) s fs q u rs a b
+acts (Some (move.Nest s)) q r fs u rs h a b = nests (room_for fs) s fs q u rs a b
 acts (Some move.Unnest) q r [] u rs h a b = tt
 acts (Some move.Unnest) q r (f ∷ fs) u rs h a b = (a.1, put_row rs f.row _ b a.0)
 acts (Some move.Name) q r [] u rs h a b = tt
@@ -136,20 +136,20 @@ and_then_lem : {A B : Type 0} (P : A → Type 0) (Q : B → Type 0) (r : Result 
 and_then_lem P Q (Ok x) f h g = g x h
 and_then_lem P Q (Err e) f h g = tt
 
-steps : (s : St) (p : ℕ) (r : List ℕ) (q : ℕ) (t : Tag) → Held s → Good Held (step put_at 16 s p r q t)
+steps : (s : St) (p : ℕ) (r : List ℕ) (q : ℕ) (t : Tag) → Held s → Good Held (step put_at s p r q t)
 steps (st m fs u rs) p r q t h =
-    and_then_lem InMessage Held (run_row m t p r) (λ row. act put_at 16 (lookup t (entries m)) q row fs u rs) (run_row_lem m t p r) (λ row l. acts (lookup t (entries m)) q row fs u rs l h.0 h.1)
+    and_then_lem InMessage Held (run_row m t p r) (λ row. act put_at (lookup t (entries m)) q row fs u rs) (run_row_lem m t p r) (λ row l. acts (lookup t (entries m)) q row fs u rs l h.0 h.1)
 
 finishes : (done : Bool) (r : Result Row Refusal) (s : St) (len : ℕ) (e : Refusal) → Held s → Good Held (cond done (and_then r (λ _. Ok s)) (Err e))
 finishes true (Ok x) s len e h = h
 finishes true (Err d) s len e h = tt
 finishes false r s len e h = tt
 
-judges : (s : St) (p : ℕ) (r : List ℕ) (ps : Parts) (len : ℕ) → Held s → Good Held (judge put_at 16 s p r ps len)
+judges : (s : St) (p : ℕ) (r : List ℕ) (ps : Parts) (len : ℕ) → Held s → Good Held (judge put_at s p r ps len)
 judges (st m fs u rs) p r ends len h = finishes (is_finished put_at m) (blank_run p r) (st m fs u rs) len _ h
 judges s p r (broken q) len h = tt
 judges s p r (run p' r' then ps) len h = judges s p' r' ps len h
-judges s p r (tag q t then ps) len h = and_then_lem Held Held (step put_at 16 s p r q t) (λ s'. judge put_at 16 s' 0 [] ps len) (steps s p r q t h) (λ s' h'. judges s' 0 [] ps len h')
+judges s p r (tag q t then ps) len h = and_then_lem Held Held (step put_at s p r q t) (λ s'. judge put_at s' 0 [] ps len) (steps s p r q t h) (λ s' h'. judges s' 0 [] ps len h')
 
 rows_in_lem : (r : Result St Refusal) → Good Held r → Good (AllByRecursion InMessage) (rows_in r)
 rows_in_lem (Ok (st m fs u rs)) h = h.1
@@ -159,7 +159,7 @@ reads : (msg : List ℕ) (o : Option ℕ) → Good (AllByRecursion InMessage) (r
 reads msg None = tt
 reads msg (Some n) =
     let parts = parts_from n (drop n msg) in
-    rows_in_lem (judge put_at 16 (st Start [] 0 []) 0 [] parts (length msg)) (judges (st Start [] 0 []) 0 [] parts (length msg) (tt, tt))
+    rows_in_lem (judge put_at (st Start [] 0 []) 0 [] parts (length msg)) (judges (st Start [] 0 []) 0 [] parts (length msg) (tt, tt))
 
 checked : (a b : Bool) (d e : Refusal) (r : Result (List Row) Refusal) → Good (AllByRecursion InMessage) r → Good (AllByRecursion InMessage) (cond a (Err d) (cond b r (Err e)))
 checked true b d e r h = tt

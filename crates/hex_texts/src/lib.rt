@@ -19,7 +19,7 @@ fn digit(value: u8) -> u8
 
 // Writes the two digits of a byte.
 pub fn write_byte<W: fmt::Write>(byte: u8, f: &mut fmt::Formatter<W>) -> fmt::Result
-    ensures { WritesOnOk write_str_gives f.old result (hex_byte byte) f.new }
+    ensures { WritesOnOk W.write_str_gives f.old result (hex_byte byte) f.new }
 {
     f.write_char(char::from(digit(byte / 16)))?;
     f.write_char(char::from(digit(byte % 16)))

@@ -1,5 +1,3 @@
-pub mod FaultRows
-pub mod FaultTold
 pub mod HeldParts
 pub mod HoldStructs
 pub mod Inserts

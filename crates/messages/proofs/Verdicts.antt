@@ -12,7 +12,7 @@ use Rattle.reader.specs.Derivations.{Say}
 use Rattle.reader.specs.Reading.{rows_of}
 use Rattle.reader.proofs.Exact.{derived_is_read, read_is_derived, only_message}
 use Rattle.messages.specs.Answers.{IsMessage, Sound, Flawed, name_repeats, bad_fault, Refused, by_its_bytes, too_many_rows, flawed, Accepted, Answer, small_memory, refused, accepted, OneAnswer, AcceptedIsMessage, MessageIsAccepted, OneReading}
-use Rattle.messages.specs.Faults.{FaultFits}
+use Rattle.reader.specs.Faults.{FaultFits}
 use Rattle.messages.specs.Repeats.{RepeatAt, NoRepeat}
 
 module _ (msg : List ℕ) where

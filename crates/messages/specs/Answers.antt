@@ -8,7 +8,7 @@ use Rattle.wire.specs.Trees.{Message, message_rows}
 use Rattle.reader.specs.Contents.{content_of}
 use Rattle.reader.specs.Derivations.{Derives, Say}
 use Rattle.reader.specs.Reading.{rows_of}
-use Rattle.messages.specs.Faults.{FaultFits}
+use Rattle.reader.specs.Faults.{FaultFits}
 use Rattle.messages.specs.Repeats.{FirstRepeat, NoRepeat}
 
 -- the bytes are this message: the grammar derives it, no name comes twice in a struct, and a fault's value is as asked

@@ -1,5 +1,4 @@
 pub mod Answers
-pub mod Faults
 pub mod Holding
 pub mod Order
 pub mod Sorted

@@ -1,5 +1,4 @@
 // Reading a whole message at a level: its rows, or its first refusal.
-mod fault;
 mod names;
 mod reading;
 mod walk;

@@ -68,7 +68,7 @@ fn keep(sorted: &mut [u16], len: usize, place: usize, row: u16)
 
 // The first member of a struct whose name came before in it.
 fn repeat_in(message: &[u8], rows: &[Row], at: usize, sorted: &mut [u16]) -> Option<usize>
-    requires at_in_bounds { (at < length rows.now) × ((length rows.now ≤ 4096) × (length sorted.old ≡ 4096)) }
+    requires fits { (at < length rows.now) × ((length rows.now ≤ 4096) × (length sorted.old ≡ 4096)) }
     requires held { (k : ℕ) → k < (slice_index_or rows.now at blank_row).count → part_at (counts_of rows.now) at k < length rows.now }
     ensures { ComesIn message.now rows.now at result }
 {
@@ -98,7 +98,7 @@ fn earlier(a: Option<usize>, b: Option<usize>) -> Option<usize>
 
 // The row of the first member, in the order of the message, whose name came before in its struct.
 pub(crate) fn first_repeat(message: &[u8], rows: &[Row]) -> Option<usize>
-    requires rows_len_bound { length rows.now ≤ 4096 }
+    requires few { length rows.now ≤ 4096 }
     requires held { StructsHold rows.now }
     ensures { Least (RepeatAt (map (content_of message.now) rows.now)) result }
 {

@@ -3,20 +3,18 @@ ghost use Rattle.std.specs.Prelude.{◌≡◌, ◌≤◌, length, IfOk, MatchOpt
 ghost use Rattle.wire.specs.Levels.{level_number, rows_at};
 ghost use Rattle.wire.specs.Trees.{Message};
 ghost use Rattle.reader.specs.Derivations.{Say};
-ghost use Rattle.reader.specs.Hopeless.{RefusedTagIsHopeless};
 ghost use Rattle.reader.specs.KnownCases.{KnownCases};
 ghost use Rattle.messages.specs.Answers.{Sound, Flawed, Answer, OneAnswer, AcceptedIsMessage, MessageIsAccepted, OneReading};
 
-use crate::fault::fault_fits;
 use crate::names::first_repeat;
-use reader::read_rows;
+use reader::{fault_fits, read_rows};
 use wire::level::Level;
 use wire::refusal::Refusal;
 use wire::row::{Row, blank_rows};
 
 // What is wrong with the rows of a message that the grammar derives, if anything is.
 fn flaw(message: &[u8], rows: &[Row]) -> Option<Refusal>
-    requires rows_len_bound { length rows.now ≤ 4096 }
+    requires few { length rows.now ≤ 4096 }
     requires said { (m : Message) × Say message.now rows.now m }
     ensures { MatchOption result (Sound message.now rows.now) (λ e. Flawed message.now rows.now e) }
 {
@@ -51,7 +49,6 @@ pub fn read(level: Level, message: &[u8], rows: &mut [Row]) -> Result<usize, Ref
     ensures one { OneAnswer (rows_at (level_number level)) message.now rows.old }
     ensures accepts { AcceptedIsMessage (rows_at (level_number level)) message.now × MessageIsAccepted (rows_at (level_number level)) message.now }
     ensures readings { OneReading message.now }
-    ensures hopeless { RefusedTagIsHopeless message.now }
     ensures known { KnownCases }
 {
     let room = level.rows();

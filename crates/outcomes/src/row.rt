@@ -16,7 +16,7 @@ use wire::row::Row;
 
 // Writes a stored string, as read, in hexadecimal.
 fn write_characters<W: fmt::Write>(text: &[u8], f: &mut fmt::Formatter<W>) -> fmt::Result
-    ensures { WritesOnOk write_str_gives f.old result (hex_text (characters.decoded text.now)) f.new }
+    ensures { WritesOnOk W.write_str_gives f.old result (hex_text (characters.decoded text.now)) f.new }
 {
     let mut characters = Characters::new(text);
     let Some(first) = characters.next() else {
@@ -31,7 +31,7 @@ fn write_characters<W: fmt::Write>(text: &[u8], f: &mut fmt::Formatter<W>) -> fm
 
 // Writes the bytes that a stored base64 text stands for, in hexadecimal.
 fn write_decoded<W: fmt::Write>(text: &[u8], f: &mut fmt::Formatter<W>) -> fmt::Result
-    ensures { WritesOnOk write_str_gives f.old result (hex_text (base64.decoded text.now)) f.new }
+    ensures { WritesOnOk W.write_str_gives f.old result (hex_text (base64.decoded text.now)) f.new }
 {
     let mut bytes = Decoded::new(text);
     let Some(first) = bytes.next() else {

@@ -31,7 +31,7 @@ fn is_pair(message: &[u8], member: Row, value: Row, name: &[u8], kind: Kind) -> 
 }
 
 // For the rows of a message: whether the value of a fault is as asked. Calls and responses have none.
-pub(crate) fn fault_fits(message: &[u8], rows: &[Row]) -> bool
+pub fn fault_fits(message: &[u8], rows: &[Row]) -> bool
     ensures { (m : Message) → Say message.now rows.now m → Decides result (FaultFits m) }
 {
     if rows.len() == 0 || rows[0].kind.number() != Kind::Fault.number() {

@@ -7,4 +7,5 @@ mod machine;
 mod read;
 mod runs;
 
+pub use fault::fault_fits;
 pub use read::read_rows;

@@ -6,8 +6,8 @@ ghost use Rattle.writer.specs.Pages.{Put};
 ghost use Rattle.writer.specs.Tables.{spelling_of};
 ghost use Rattle.writer.specs.Nodes.{Node, node_rows, node_form, opening_of, Counts};
 
+use crate::marks::{after, back, before, close, front};
 use crate::put::{put, put_base64, put_double, put_int, put_text};
-use crate::table::{after, back, before, close, front};
 use held::held::{Facts, Held};
 use wire::kind::Kind;
 

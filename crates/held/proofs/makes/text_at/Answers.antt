@@ -8,4 +8,4 @@ returns-then-i-rows c =
 
 pub returns : goal.returns
 returns c =
-    c.text-of.ensures ∙ sym (ap (λ r. r.text) (at c.args.message.now c.args.ink.now c.args.rows.now c.args.i c.if-i-rows.false))
+    c.text_of.ensures ∙ sym (ap (λ r. r.text) (at c.args.message.now c.args.ink.now c.args.rows.now c.args.i c.if-i-rows.false))

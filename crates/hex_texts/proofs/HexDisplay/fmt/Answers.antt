@@ -9,7 +9,7 @@ pub loop-byte-preserved : goal.loop-byte-preserved
 loop-byte-preserved g c = λ p.
     let took = g.W.Write.write_str_gives in
     let before = c.loop-byte.invariant p in
-    let more = c.in-ok-write-byte.ensures before.plain refl in
+    let more = c.in_ok-write_byte.ensures before.plain refl in
     has_written_of_eq took _ _ _ _ (hex_digits-more c.args.self.now.0.now c.loop-byte.byte-index (omega arith)) (has_written_append took _ _ _ _ _ before more)
 
 pub returns-clause-writes : goal.returns-clause-writes

@@ -13,11 +13,11 @@ loop-at-preserved c =
     let old = c.loop-at.invariant.1 in
     elim c.match-rows-at.branch [
       | in-Struct w ↦
-          let found = comes_said msg rows c.requires.held at c.loop-at-test.true w.in-Struct.is w.repeat-in.result w.repeat-in.ensures in
-          let both = below_next msg rows at c.loop-at.first w.repeat-in.result old found in
-          (omega (arith, ap length w.sorted-is, w.repeat-in.auto.sorted, c.loop-at.invariant.0), subst (λ r. Least (RepeatBelow (map (content_of msg) rows) (at + 1)) r) (sym (w.first-is ∙ w.earlier-first.ensures)) both)
+          let found = comes_said msg rows c.requires.held at c.loop-at-test.true w.in-Struct.is w.repeat_in.result w.repeat_in.ensures in
+          let both = below_next msg rows at c.loop-at.first w.repeat_in.result old found in
+          (omega (arith, ap length w.sorted-is, w.repeat_in.auto.sorted, c.loop-at.invariant.0), subst (λ r. Least (RepeatBelow (map (content_of msg) rows) (at + 1)) r) (sym (w.first-is ∙ w.earlier-first.ensures)) both)
       | in_default w ↦
-          (ap length w.sorted-is ∙ c.loop-at.invariant.0, subst (λ r. Least (RepeatBelow (map (content_of msg) rows) (at + 1)) r) (sym w.first-is) (below_same msg rows at c.loop-at.first old c.loop-at-test.true w.in-default.not-Struct))
+          (ap length w.sorted-is ∙ c.loop-at.invariant.0, subst (λ r. Least (RepeatBelow (map (content_of msg) rows) (at + 1)) r) (sym w.first-is) (below_same msg rows at c.loop-at.first old c.loop-at-test.true w.in_default.not-Struct))
     ]
 
 pub returns : goal.returns

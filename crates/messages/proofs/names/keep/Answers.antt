@@ -4,6 +4,6 @@ use Rattle.messages.proofs.names.keep.Goals as goal
 
 pub returns : goal.returns
 returns c =
-    let moved = c.copy-within.ensures.by_index in
-    put_among c.args.sorted.now c.copy-within.new.self c.args.len c.args.place c.args.row
-    c.copy-within.ensures.len (omega arith) (omega arith) moved.0 moved.1
+    let moved = c.copy_within.ensures.by_index in
+    put_among c.args.sorted.now c.copy_within.new.self c.args.len c.args.place c.args.row
+    c.copy_within.ensures.len (omega arith) (omega arith) moved.0 moved.1

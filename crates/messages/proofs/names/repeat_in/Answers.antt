@@ -7,13 +7,13 @@ use Rattle.messages.proofs.Seen.{Seen, seen_more, seen_none}
 use Rattle.messages.proofs.names.repeat_in.Goals as goal
 
 pub loop-n-init : goal.loop-n-init
-loop-n-init c = (c.requires.0.1.1, seen_none c.args.message.now c.args.rows.now c.args.at (take 0 c.args.sorted.now) c.requires.0.0 refl)
+loop-n-init c = (c.requires.fits.1.1, seen_none c.args.message.now c.args.rows.now c.args.at (take 0 c.args.sorted.now) c.requires.fits.0 refl)
 
-pub shape-of-sorted-in-Ok : goal.shape-of-sorted-in-Ok
-shape-of-sorted-in-Ok c = c.loop-n.invariant.0 ∙ sym c.requires.0.1.1
+pub shape_of-sorted-in-Ok : goal.shape_of-sorted-in-Ok
+shape_of-sorted-in-Ok c = c.loop-n.invariant.0 ∙ sym c.requires.fits.1.1
 
-pub shape-of-sorted : goal.shape-of-sorted
-shape-of-sorted c = c.loop-n.invariant.0 ∙ sym c.requires.0.1.1
+pub shape_of-sorted : goal.shape_of-sorted
+shape_of-sorted c = c.loop-n.invariant.0 ∙ sym c.requires.fits.1.1
 
 pub returns-in-Ok : goal.returns-in-Ok
 returns-in-Ok c =
@@ -39,7 +39,7 @@ returns-in-Ok c =
 pub keep-requires : goal.keep-requires
 keep-requires c =
     let seen = c.loop-n.invariant.1 in
-    (omega (arith, c.in-Err.ensures.within, seen.many), omega (arith, c.loop-n.invariant.0, seen.far, seen.within, c.requires.0.1.0))
+    (omega (arith, c.in-Err.ensures.within, seen.many), omega (arith, c.loop-n.invariant.0, seen.far, seen.within, c.requires.fits.1.0))
 
 pub loop-n-preserved : goal.loop-n-preserved
 loop-n-preserved c =
@@ -52,5 +52,5 @@ loop-n-preserved c =
     let place = c.in-Err.place in
     let belongs = subst (λ i. Belongs msg rows (take i c.loop-n.sorted) (decoded c.cut-name.result.now) place) all c.in-Err.ensures in
     let named = subst (λ name. Belongs msg rows sorted (decoded name) place) c.cut-name.ensures belongs in
-    let more = seen_more msg rows c.args.at c.loop-n.n c.loop-n.member place sorted seen lt named c.past-part-member.result c.past-part-member.ensures.value c.past-part-member.ensures.within in
-    (omega (arith, c.loop-n.invariant.0, c.keep.auto.sorted), subst (λ l. Seen msg rows c.args.at (c.loop-n.n + 1) c.past-part-member.result l) (sym c.keep.ensures) more)
+    let more = seen_more msg rows c.args.at c.loop-n.n c.loop-n.member place sorted seen lt named c.past_part-member.result c.past_part-member.ensures.value c.past_part-member.ensures.within in
+    (omega (arith, c.loop-n.invariant.0, c.keep.auto.sorted), subst (λ l. Seen msg rows c.args.at (c.loop-n.n + 1) c.past_part-member.result l) (sym c.keep.ensures) more)

@@ -8,26 +8,23 @@ use Rattle.messages.specs.Repeats.{RepeatAt}
 use Rattle.messages.proofs.HoldStructs.{structs_hold}
 use Rattle.messages.proofs.reading.flaw.Goals as goal
 
-pub first-repeat-requires : goal.first-repeat-requires
-first-repeat-requires c = record { 0 = c.requires.0; held = structs_hold c.args.message.now c.args.rows.now c.requires.said.0 c.requires.said.1 }
+pub first_repeat-requires : goal.first_repeat-requires
+first_repeat-requires c = record { few = c.requires.few; held = structs_hold c.args.message.now c.args.rows.now c.requires.said.0 c.requires.said.1 }
 
-inside : (c : goal.In-Some) → c.in-Some.i < length c.args.rows.now
-inside c = omega (arith, c.in-Some.ensures.0.1.inside, length-map c.args.rows.now (content_of c.args.message.now))
-
-pub offset-bounds-rows-i : goal.offset-bounds-rows-i
-offset-bounds-rows-i c = omega (arith, inside c, c.requires.0)
+pub offset_bounds-rows-i : goal.offset_bounds-rows-i
+offset_bounds-rows-i c = omega (arith, c.in-Some.ensures.0.1.inside, length-map c.args.rows.now (content_of c.args.message.now), c.requires.few)
 
 pub bounds-rows-i : goal.bounds-rows-i
-bounds-rows-i c = inside c
+bounds-rows-i c = omega (arith, c.in-Some.ensures.0.1.inside, length-map c.args.rows.now (content_of c.args.message.now))
 
 pub returns-in-Some : goal.returns-in-Some
 returns-in-Some c = name_repeats c.in-Some.i c.in-Some.ensures
 
-pub returns-then-not-fault-fits : goal.returns-then-not-fault-fits
-returns-then-not-fault-fits c =
+pub returns-then-not-fault_fits : goal.returns-then-not-fault_fits
+returns-then-not-fault_fits c =
     let m = c.requires.said.0 in
     let say = c.requires.said.1 in
-    bad_fault m say (λ i r. c.in-default.ensures i (subst (λ l. RepeatAt l i) (sym say) r)) (λ f. false≢true (sym c.if-not-fault-fits.true ∙ (c.fault-fits.ensures m say).1 f))
+    bad_fault m say (λ i r. c.in_default.ensures i (subst (λ l. RepeatAt l i) (sym say) r)) (λ f. false≢true (sym c.if-not-fault_fits.true ∙ (c.fault_fits.ensures m say).1 f))
 
 pub returns : goal.returns
 returns c =
@@ -36,6 +33,6 @@ returns c =
     record {
       tree = m;
       says = say;
-      names = λ i r. c.in-default.ensures i (subst (λ l. RepeatAt l i) (sym say) r);
-      fault = (c.fault-fits.ensures m say).0 c.if-not-fault-fits.false;
+      names = λ i r. c.in_default.ensures i (subst (λ l. RepeatAt l i) (sym say) r);
+      fault = (c.fault_fits.ensures m say).0 c.if-not-fault_fits.false;
     }

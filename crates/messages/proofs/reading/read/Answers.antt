@@ -1,7 +1,6 @@
 use Rattle.std.proofs.Common.{◌≡◌, ◌-◌, ◌<◌, ◌≤◌, ◌++◌, length, take, drop, sym, refl, ap, ◌∙◌, subst, arith}
 use Rattle.std.proofs.lemmas.List.{length-take-le}
 use Rattle.wire.specs.Levels.{level_number, rows_at}
-use Rattle.reader.proofs.Hopeless.{refused-tag-is-hopeless}
 use Rattle.reader.proofs.Known.{known_cases_lem}
 use Rattle.messages.specs.Answers.{Answer, small_memory}
 use Rattle.messages.proofs.Left.{front_answer, within_lent}
@@ -19,7 +18,6 @@ returns-then-rows-room c =
       one = one_answer msg room c.args.rows.now;
       accepts = (accepted_is_message msg room, message_is_accepted msg room);
       readings = one_reading msg;
-      hopeless = refused-tag-is-hopeless msg;
       known = known_cases_lem;
     }
 
@@ -30,9 +28,9 @@ returns c =
     let old = c.args.rows.now in
     let fits : room ≤ length old = omega (arith, c.rows-room.ensures, c.if-rows-room.false) in
     let end : c.rows-room.result - 0 ≡ room = omega (arith, c.rows-room.ensures) in
-    let r = c.read-within.result in
-    let left = c.read-within.new.rows in
-    let inner = subst (λ k. Answer (length (take k old)) msg (take k old) r left) end c.read-within.ensures in
+    let r = c.read_within.result in
+    let left = c.read_within.new.rows in
+    let inner = subst (λ k. Answer (length (take k old)) msg (take k old) r left) end c.read_within.ensures in
     let whole = subst (λ k. Answer k msg (take room old) r left) (length-take-le room old fits) inner in
     let all = front_answer room msg old fits r left whole in
     record {
@@ -41,6 +39,5 @@ returns c =
       one = one_answer msg room old;
       accepts = (accepted_is_message msg room, message_is_accepted msg room);
       readings = one_reading msg;
-      hopeless = refused-tag-is-hopeless msg;
       known = known_cases_lem;
     }

@@ -9,48 +9,48 @@ use Rattle.messages.specs.Answers.{Sound, Flawed}
 use Rattle.messages.proofs.Left.{refused_answer, was_read, front, accepted_answer, flawed_answer}
 use Rattle.messages.proofs.reading.read_within.Goals as goal
 
-pub returns-in-err-used : goal.returns-in-err-used
-returns-in-err-used c =
+pub returns-in_err-used : goal.returns-in_err-used
+returns-in_err-used c =
     let msg = c.args.message.now in
     let old = c.args.rows.now in
-    let read = c.in-err-used.ensures in
-    let p = err_from_is_err_and c.from-residual.result c.from-residual.ensures.1 in
-    rw (p.1, p.2) (refused_answer msg old c.read-rows.new.rows c.in-err-used.field-0.0 read.value read.rows)
+    let read = c.in_err-used.ensures in
+    let p = err_from_is_err_and c.from_residual.result c.from_residual.ensures.1 in
+    rw (p.1, p.2) (refused_answer msg old c.read_rows.new.rows c.in_err-used.field-0.0 read.value read.rows)
 
 pub flaw-requires : goal.flaw-requires
 flaw-requires c =
     let msg = c.args.message.now in
     let old = c.args.rows.now in
-    let left = c.read-rows.new.rows in
-    let n = c.in-ok-used.used in
+    let left = c.read_rows.new.rows in
+    let n = c.in_ok-used.used in
     let all : n - 0 ≡ n = omega arith in
-    let read = c.in-ok-used.ensures in
+    let read = c.in_ok-used.ensures in
     let r = was_read msg old left n read.value in
     let rows : take (n - 0) left ≡ r.rs = ap (λ k. take k left) all ∙ front msg old left n r read.rows in
     let d = read_is_derived msg r.rs r.reads in
-    record { 0 = omega (arith, ap length rows, r.fits, c.requires); said = (d.0, subst (λ l. Say msg l d.0) (sym rows) d.2) }
+    record { few = omega (arith, ap length rows, r.fits, c.requires); said = (d.0, subst (λ l. Say msg l d.0) (sym rows) d.2) }
 
 pub returns-in_default : goal.returns-in_default
 returns-in_default c =
     let msg = c.args.message.now in
     let old = c.args.rows.now in
-    let left = c.read-rows.new.rows in
-    let n = c.in-ok-used.used in
+    let left = c.read_rows.new.rows in
+    let n = c.in_ok-used.used in
     let all : n - 0 ≡ n = omega arith in
-    let read = c.in-ok-used.ensures in
+    let read = c.in_ok-used.ensures in
     let r = was_read msg old left n read.value in
-    accepted_answer msg old left n r read.rows (subst (λ k. Sound msg (take k left)) all c.in-default.ensures)
+    accepted_answer msg old left n r read.rows (subst (λ k. Sound msg (take k left)) all c.in_default.ensures)
 
 pub returns : goal.returns
 returns c =
     let msg = c.args.message.now in
     let old = c.args.rows.now in
-    let left = c.read-rows.new.rows in
-    let n = c.in-ok-used.used in
+    let left = c.read_rows.new.rows in
+    let n = c.in_ok-used.used in
     let all : n - 0 ≡ n = omega arith in
-    let read = c.in-ok-used.ensures in
+    let read = c.in_ok-used.ensures in
     let r = was_read msg old left n read.value in
     let e = c.in-Some.refusal in
-    let long : length left ≡ length old = omega (arith, c.read-rows.auto.rows) in
-    flawed_answer msg old left n r read.rows e c.blank-rows.new.rows (subst (λ k. Flawed msg (take k left) e) all c.in-Some.ensures)
-    (c.blank-rows.ensures ∙ all_cleared blank_row (length left) left refl ∙ ap (λ k. replicate k blank_row) long)
+    let long : length left ≡ length old = omega (arith, c.read_rows.auto.rows) in
+    flawed_answer msg old left n r read.rows e c.blank_rows.new.rows (subst (λ k. Flawed msg (take k left) e) all c.in-Some.ensures)
+    (c.blank_rows.ensures ∙ all_cleared blank_row (length left) left refl ∙ ap (λ k. replicate k blank_row) long)

@@ -22,14 +22,14 @@ row-requires g t c κs = λ h. h
 pub returns-in_default : goal.returns-in_default
 returns-in_default g t c = record {
   rows = omega arith;
-  part = λ n rest counts e. absurd (omega (arith, (begins (g.M.Held.said c.args.held.now) rest c.args.i n e).inside, c.in-default.ensures.told));
+  part = λ n rest counts e. absurd (omega (arith, (begins (g.M.Held.said c.args.held.now) rest c.args.i n e).inside, c.in_default.ensures.told));
 }
 
 pub open-place-requires : goal.open-place-requires
 open-place-requires g t c = c.in-Some.ensures.told.1
 
-pub overflow-add-next : goal.overflow-add-next
-overflow-add-next g t c = omega (arith, c.in-Some.ensures.next)
+pub overflow_add-next : goal.overflow_add-next
+overflow_add-next g t c = omega (arith, c.in-Some.ensures.next)
 
 pub loop-k-init : goal.loop-k-init
 loop-k-init g t c = (omega arith, λ n rest counts e. (no_parts c.args.i, none_put c.open-place.new.page c.open-place.result (own_row n).kind (omega arith)))
@@ -40,8 +40,8 @@ before-requires g t c = tt
 pub put-place-requires : goal.put-place-requires
 put-place-requires g t c = tt
 
-pub write-part-step-requires : goal.write-part-step-requires
-write-part-step-requires g t c κs within = (omega (arith, c.decreases, c.loop-k.invariant.0, c.in-Some.ensures.told.0), within)
+pub write_part-step-requires : goal.write_part-step-requires
+write_part-step-requires g t c κs within = (omega (arith, c.decreases, c.loop-k.invariant.0, c.in-Some.ensures.told.0), within)
 
 pub after-requires : goal.after-requires
 after-requires g t c = tt
@@ -54,7 +54,7 @@ loop-k-smaller g t c = omega arith
 
 pub loop-k-preserved : goal.loop-k-preserved
 loop-k-preserved g t c = (
-  omega (arith, c.loop-k.invariant.0, c.write-part-step.ensures.rows),
+  omega (arith, c.loop-k.invariant.0, c.write_part-step.ensures.rows),
   λ n rest counts e.
       let said = g.M.Held.said c.args.held.now in
       let b = begins said rest c.args.i n e in
@@ -67,13 +67,13 @@ loop-k-preserved g t c = (
       let p = next_part kd parts k lt oc.1 in
       let old = c.loop-k.invariant.1 n rest counts e in
       let here = stands said rest c.args.i c.loop-k.next k n kd b p old.0 in
-      let did = c.write-part-step.ensures.part p.part (nodes_rows (from (suc k) parts) ++ rest) p.counts here in
+      let did = c.write_part-step.ensures.part p.part (nodes_rows (from (suc k) parts) ++ rest) p.counts here in
       let page₀ = c.loop-k.page in
       let page₁ = c.put-place.new.page in
-      let page₂ = c.write-part-step.new.page in
+      let page₂ = c.write_part-step.new.page in
       let page₃ = c.put-place-in-loop-k.new.page in
       let at₁ = c.put-place.result in
-      let at₂ = c.write-part-step.result.place in
+      let at₂ = c.write_part-step.result.place in
       let at₃ = c.put-place-in-loop-k.result in
       let bf = subst (λ l. Put page₀ c.loop-k.place l page₁ at₁) (c.before-in-loop-k.ensures ∙ ap (λ f. before_of f.kind) same) c.put-place.ensures in
       let af = subst (λ l. Put page₂ at₂ l page₃ at₃) (c.after.ensures ∙ ap (λ f. after_of f.kind) same) c.put-place-in-loop-k.ensures in

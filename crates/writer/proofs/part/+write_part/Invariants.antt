@@ -5,8 +5,8 @@ use Rattle.writer.specs.Nodes.{Node, own_row, parts_of, node_rows, nodes_rows, n
 use Rattle.writer.proofs.Kids.{up_to}
 use Rattle.writer.proofs.part.+write_part.Given as goal
 
-abbrev pub decreases-write-part : goal.decreases-write-part
-decreases-write-part g l = length (g.M.Held.said l.held.now) - l.i
+abbrev pub decreases-write_part : goal.decreases-write_part
+decreases-write_part g l = length (g.M.Held.said l.held.now) - l.i
 
 abbrev pub invariant-loop-k : goal.invariant-loop-k
 invariant-loop-k g l =

@@ -13,12 +13,12 @@ returns c =
     elim c.if-at-page.branch [
       | then-at-page+then-len-page w ↦ record {
         long = c.if-at-page.auto.page;
-        place = c.saturating-add.ensures;
-        stands = λ _ _. w.page-is ∙ ap (λ l. put_mid at (at + length bytes - at) page l) w.copy-from-slice.ensures.after ∙ put_mid_lem page bytes at (at + length bytes - at) (omega arith);
+        place = c.saturating_add.ensures;
+        stands = λ _ _. w.page-is ∙ ap (λ l. put_mid at (at + length bytes - at) page l) w.copy_from_slice.ensures.after ∙ put_mid_lem page bytes at (at + length bytes - at) (omega arith);
       }
       | else-at-page w ↦ record {
         long = c.if-at-page.auto.page;
-        place = c.saturating-add.ensures;
+        place = c.saturating_add.ensures;
         stands = λ _ fits. absurd (elim w.else-at-page.branch [
           | else-at-page-via-then-at-page+else-len-page v ↦ omega (arith, v.if-at-page.true, v.if-len-page.false, fits)
           | else-at-page-via-else-at-page v ↦ omega (arith, v.if-at-page.false, fits)

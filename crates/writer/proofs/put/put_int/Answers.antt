@@ -14,15 +14,15 @@ returns c =
     let at = c.args.at in
     let z = c.args.number in
     let whole = to_z-of_z w64 z c.ranges.number in
-    let place = c.saturating-add.ensures ∙ ap (reached at) (c.int-len.ensures ∙ ap (λ n. length (int_spelling n)) whole) in
+    let place = c.saturating_add.ensures ∙ ap (reached at) (c.int_len.ensures ∙ ap (λ n. length (int_spelling n)) whole) in
     elim c.if-at-all.branch [
       | then-at-all w ↦ record {
         long = c.if-at-all.auto.page;
         place = place;
         stands = λ _ fits.
-            let wrote = subst (λ n. Writes (int_spelling n) (drop at page) w.write-int.new.page w.write-int.result) whole
-            (subst (λ l. Writes (int_spelling (to_z w64 (of_z w64 z))) l w.write-int.new.page w.write-int.result) (take_rest page at) w.write-int.ensures.page) in
-            w.page-is ∙ put_rest page (int_spelling z) w.write-int.new.page at w.write-int.result w.if-at-all.true wrote fits;
+            let wrote = subst (λ n. Writes (int_spelling n) (drop at page) w.write_int.new.page w.write_int.result) whole
+            (subst (λ l. Writes (int_spelling (to_z w64 (of_z w64 z))) l w.write_int.new.page w.write_int.result) (take_rest page at) w.write_int.ensures.page) in
+            w.page-is ∙ put_rest page (int_spelling z) w.write_int.new.page at w.write_int.result w.if-at-all.true wrote fits;
       }
       | else-at-all w ↦ record {
         long = c.if-at-all.auto.page;

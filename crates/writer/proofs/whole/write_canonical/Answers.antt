@@ -7,10 +7,10 @@ use Rattle.writer.proofs.whole.write_canonical.Goals as goal
 pub returns : goal.returns
 returns g c = λ m says.
     let page = c.args.page.now in
-    let len = c.canonical-len-len.ensures m says in
+    let len = c.canonical_len-len.ensures m says in
     let small : length page < 2 ^ 63 = omega arith in
     let fits : length (canonical m) ≤ length page = omega (arith, len, c.if-len-page.false, small) in
-    let wrote = c.write-part.ensures.part (message_node m) [] (message_counts m) (from_first (g.M.Held.said c.args.held.now) m says) in
+    let wrote = c.write_part.ensures.part (message_node m) [] (message_counts m) (from_first (g.M.Held.said c.args.held.now) m says) in
     let form = message_form_lem m in
     let here : 0 + length (canonical m) ≡ length (canonical m) = omega arith in (
       omega (arith, len, fits, small),

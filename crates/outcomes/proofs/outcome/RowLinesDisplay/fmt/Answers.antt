@@ -9,7 +9,7 @@ pub loop-row-preserved : goal.loop-row-preserved
 loop-row-preserved g c = λ p.
     let took = g.W.Write.write_str_gives in
     let before = c.loop-row.invariant p in
-    let more = c.in-ok-writeln.ensures.shows before.plain refl in
+    let more = c.in_ok-writeln.ensures.writes before.plain refl in
     has_written_of_eq took _ _ _ _ (row_lines_more c.args.self.now.message.now c.args.self.now.rows.now c.loop-row.row-index (omega arith)) (has_written_append took _ _ _ _ _ before more)
 
 pub returns-clause-writes : goal.returns-clause-writes

@@ -1,6 +1,6 @@
 use Rattle.std.proofs.Common.{◌≡◌, ℕ, zero, suc, sym, refl, ap, ◌∙◌, arith}
 use Rattle.writer.specs.Tables.{close_of, params_close}
-use Rattle.writer.proofs.table.close.Goals as goal
+use Rattle.writer.proofs.marks.close.Goals as goal
 
 some : (n : ℕ) → (n ≡ 0 → ⊥) → params_close n ≡ params_close 1
 some zero ne = absurd (ne refl)

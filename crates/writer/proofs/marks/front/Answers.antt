@@ -1,6 +1,6 @@
 use Rattle.std.proofs.Common.{sym, ap}
 use Rattle.writer.specs.Tables.{front_of}
-use Rattle.writer.proofs.table.front.Goals as goal
+use Rattle.writer.proofs.marks.front.Goals as goal
 
 pub returns-in-Call : goal.returns-in-Call
 returns-in-Call c = ap front_of (sym c.in-Call.is)
