@@ -1,4 +1,6 @@
 // The canonical form of messages.
+#![tactic(auto)]
+
 ghost use Rattle.canonical.specs.KnownForms.{KnownForms};
 ghost use Rattle.canonical.specs.Laws.{WrittenReadsBack, CanonicalBytesAreGood, CanonicalTellsMessages};
 

@@ -1,11 +1,11 @@
 -- Numbers behind spaces: the first one and the others.
-use Rattle.std.proofs.Common.{◌≡◌, ℕ, ◌<◌, ◌≤◌, min, true, false, List, [], ◌∷◌, ◌++◌, length, take, drop, sym, refl, ap, ◌∙◌, subst, append-nil, arith, take-append-drop}
+use Rattle.std.proofs.Common.{◌≡◌, ℕ, ◌<◌, true, List, [], ◌∷◌, ◌++◌, length, take, drop, sym, refl, ap, ◌∙◌, subst, append-nil, arith, take-append-drop}
 use Rattle.std.specs.List.{prefix_len, AllByRecursion}
 use Rattle.std.proofs.lemmas.List.{take_at, drop_at, length-take-le}
 use Rattle.std.proofs.lemmas.List.Sums.{prefix_len-le-length}
 use Rattle.texts.specs.Digits.{is_digit, worth}
 use Rattle.texts.proofs.Fronts.{leading_all, leading_stops, all_leading}
-use Rattle.commands.specs.Numbers.{capped, Numeral, Spaced}
+use Rattle.commands.specs.Numbers.{capped, Spaced}
 
 -- digits in front of further numbers are all that lead
 digits_lead : (ds rest ns : List ℕ) → AllByRecursion (λ d. is_digit d ≡ true) ds → Spaced rest ns → prefix_len is_digit (ds ++ rest) ≡ length ds

@@ -1,4 +1,6 @@
 // The lines that the console takes, and what each asks for.
+#![tactic(auto)]
+
 mod command;
 mod numbers;
 

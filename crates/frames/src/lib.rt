@@ -1,4 +1,6 @@
 // Which messages are read at all.
+#![tactic(auto)]
+
 ghost use Rattle.frames.specs.Frames.{Admits};
 
 use wire::level::Level;

@@ -1,5 +1,5 @@
 -- The texts of a message that was read lie in its bytes.
-use Rattle.std.proofs.Common.{◌≡◌, ℕ, zero, suc, Bool, true, false, cond, eqb, ltb, List, [], ◌∷◌, map, length, take, drop, Some, None, Ok, Err, Option, Result, sym, refl, ap, ◌∙◌, subst}
+use Rattle.std.proofs.Common.{◌≡◌, ℕ, zero, suc, Bool, true, false, cond, eqb, ltb, List, [], ◌∷◌, map, length, take, drop, Some, None, Ok, Err, Option, Result, refl, ap, subst}
 use Rattle.std.specs.List.{prefix_len, AllByRecursion}
 use Rattle.wire.specs.declared.row.Store.{Store}
 use Rattle.wire.specs.declared.row.Store.TheVariants as store
@@ -28,8 +28,8 @@ use Rattle.table.specs.declared.mode.Move.{Move}
 use Rattle.table.specs.declared.mode.Move.TheVariants as move
 use Rattle.table.specs.Entries.{lookup, entries}
 use Rattle.reader.specs.declared.frame.Frame.{Frame}
-use Rattle.reader.specs.Runs.{blank_run, characters_by, characters_run, by_value, by_test, plain_run, words_run, call_run, value_run, struct_run, run_row}
-use Rattle.reader.specs.Steps.{St, st, and_then, leave, nest, unnest, named, faulted, act, step, finish, is_finished, room_for, judge, put_at}
+use Rattle.reader.specs.Runs.{blank_run, characters_by, by_value, plain_run, call_run, value_run, struct_run, run_row}
+use Rattle.reader.specs.Steps.{St, st, and_then, leave, nest, act, step, is_finished, room_for, judge, put_at}
 use Rattle.reader.specs.Contents.{content_of}
 use Rattle.reader.specs.Reading.{read_from, reading, rows_in, rows_of}
 use Rattle.wire.specs.Trees.{Content}

@@ -1,5 +1,5 @@
 -- Where the texts of rows lie, and what rows say.
-use Rattle.std.specs.Prelude.{ℕ, List, [], map, take, drop}
+use Rattle.std.specs.Prelude.{ℕ, List, map, take, drop}
 use Rattle.wire.specs.declared.row.Store.{Store}
 use Rattle.wire.specs.declared.row.Store.TheVariants as store
 use Rattle.wire.specs.declared.row.Span.{Span}

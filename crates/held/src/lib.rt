@@ -1,4 +1,6 @@
 // Held messages: what their rows say, row by row and byte by byte.
+#![tactic(auto)]
+
 pub mod composed;
 pub mod held;
 pub mod makes;

@@ -1,4 +1,6 @@
 // Bytes in lower-case hexadecimal.
+#![tactic(auto)]
+
 ghost use Rattle.std.specs.Prelude.{◌≡◌, ◌<◌, Some};
 ghost use Rattle.std.specs.Fmt.{WritesOnOk};
 ghost use Rattle.hex_texts.specs.Hex.{hex_digit, hex_byte, hex_text};

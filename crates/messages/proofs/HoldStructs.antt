@@ -1,10 +1,10 @@
 -- Rows that say a message hold members in their structs.
-use Rattle.std.proofs.Common.{◌≡◌, ℕ, ◌<◌, List, map, length, get_or, sym, refl, ap, ◌∙◌, subst, arith}
-use Rattle.std.proofs.lemmas.List.{get_or-map, get_or_default, length-map}
+use Rattle.std.proofs.Common.{◌≡◌, ℕ, ◌<◌, List, map, length, get_or, sym, ap, ◌∙◌, subst, arith}
+use Rattle.std.proofs.lemmas.List.{get_or-map, length-map}
 use Rattle.wire.specs.declared.kind.Kind.TheVariants as kind
 use Rattle.wire.specs.declared.row.Row.{Row}
 use Rattle.wire.specs.Rows.{blank_row}
-use Rattle.wire.specs.Trees.{Content, Message, message_rows}
+use Rattle.wire.specs.Trees.{Content, Message}
 use Rattle.reader.specs.Contents.{content_of}
 use Rattle.reader.specs.Derivations.{Say}
 use Rattle.messages.specs.Holding.{part_at, counts_of}

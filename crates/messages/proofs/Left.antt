@@ -1,6 +1,6 @@
 -- What a reading leaves in the lent rows, told as an answer.
-use Rattle.std.proofs.Common.{◌≡◌, ℕ, ◌<◌, ◌≤◌, min, Bool, true, false, cond, leb, ◌⊎◌, List, [], ◌∷◌, ◌++◌, length, take, drop, replicate, IfOk, Ok, Err, Result, sym, refl, ap, ◌∙◌, subst, inl, inr, ⊎_elim, append_assoc, append-nil, arith}
-use Rattle.std.proofs.lemmas.List.{take_at, drop_all, length-take-le, drop-append-le, take-append-drop}
+use Rattle.std.proofs.Common.{◌≡◌, ℕ, ◌≤◌, min, List, [], ◌∷◌, ◌++◌, length, take, drop, replicate, IfOk, Ok, Err, Result, sym, refl, ap, ◌∙◌, subst, ⊎_elim, append_assoc, arith}
+use Rattle.std.proofs.lemmas.List.{take_at, length-take-le, drop-append-le, take-append-drop}
 use Rattle.std.proofs.lemmas.Bool.{cases_lt}
 use Rattle.wire.specs.declared.row.Row.{Row}
 use Rattle.wire.specs.declared.refusal.Refusal.{Refusal}
@@ -8,7 +8,7 @@ use Rattle.wire.specs.declared.refusal.Refusal.TheVariants.{TooManyRows}
 use Rattle.wire.specs.Rows.{blank_row, cleared}
 use Rattle.reader.specs.Reading.{rows_of, within, laid, left_by}
 use Rattle.reader.proofs.Whole.{too_many, fitting, all_cleared}
-use Rattle.messages.specs.Answers.{Sound, Flawed, Refused, by_its_bytes, too_many_rows, flawed, Accepted, Answer, small_memory, refused, accepted}
+use Rattle.messages.specs.Answers.{Sound, Flawed, Refused, by_its_bytes, too_many_rows, flawed, Answer, small_memory, refused, accepted}
 
 -- a reading that was refused
 refused_by : (msg : List ℕ) (room : ℕ) (e : Refusal) (out : Result (List Row) Refusal) → rows_of msg ≡ out → Err e ≡ within room out → Refused room msg e

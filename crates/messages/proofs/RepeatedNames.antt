@@ -8,7 +8,7 @@ use Rattle.wire.specs.Kinds.{kind_number}
 use Rattle.wire.specs.Rows.{blank_row}
 use Rattle.wire.specs.Trees.{Content}
 use Rattle.reader.specs.Contents.{content_of, stored_in, read_as}
-use Rattle.messages.specs.Holding.{part_at, counts_of, extent}
+use Rattle.messages.specs.Holding.{part_at, counts_of}
 use Rattle.messages.specs.Repeats.{row_at, member_at, RepeatIn, RepeatAt, RepeatBelow, Least, StructsHold, earlier_of}
 use Rattle.messages.specs.Sorted.{name_at, member_name, Differ, Comes, ComesIn}
 

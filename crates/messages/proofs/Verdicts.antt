@@ -1,5 +1,5 @@
 -- There is one answer, and it is that of the grammar.
-use Rattle.std.proofs.Common.{◌≡◌, ℕ, ◌<◌, ◌≤◌, List, ◌++◌, map, length, get_or, drop, Ok, Err, Result, sym, refl, ap, ◌∙◌, subst, arith}
+use Rattle.std.proofs.Common.{◌≡◌, ℕ, List, ◌++◌, map, length, get_or, drop, Ok, Err, sym, refl, ap, ◌∙◌, subst, arith}
 use Rattle.std.proofs.lemmas.List.{length-map}
 use Rattle.wire.specs.declared.row.Row.{Row}
 use Rattle.wire.specs.declared.refusal.Refusal.{Refusal}
@@ -11,7 +11,7 @@ use Rattle.reader.specs.Contents.{content_of}
 use Rattle.reader.specs.Derivations.{Say}
 use Rattle.reader.specs.Reading.{rows_of}
 use Rattle.reader.proofs.Exact.{derived_is_read, read_is_derived, only_message}
-use Rattle.messages.specs.Answers.{IsMessage, Sound, Flawed, name_repeats, bad_fault, Refused, by_its_bytes, too_many_rows, flawed, Accepted, Answer, small_memory, refused, accepted, OneAnswer, AcceptedIsMessage, MessageIsAccepted, OneReading}
+use Rattle.messages.specs.Answers.{Sound, Flawed, name_repeats, bad_fault, Refused, by_its_bytes, too_many_rows, flawed, Accepted, small_memory, refused, accepted, OneAnswer, AcceptedIsMessage, MessageIsAccepted, OneReading}
 use Rattle.reader.specs.Faults.{FaultFits}
 use Rattle.messages.specs.Repeats.{RepeatAt, NoRepeat}
 

@@ -1,9 +1,9 @@
 -- Passing over the rows of parts.
-use Rattle.std.proofs.Common.{◌≡◌, ℕ, zero, suc, ◌+◌, ◌-◌, ◌<◌, ◌≤◌, List, [], ◌∷◌, map, length, get_or, drop, sym, refl, ap, ◌∙◌, arith}
+use Rattle.std.proofs.Common.{◌≡◌, ℕ, zero, suc, ◌+◌, ◌-◌, ◌<◌, ◌≤◌, List, length, get_or, drop, refl, ap, ◌∙◌, arith}
 use Rattle.std.proofs.lemmas.List.{at_drop_more, at_drop_all, get_or-map, length-map}
 use Rattle.wire.specs.declared.row.Row.{Row}
 use Rattle.wire.specs.Rows.{blank_row}
-use Rattle.messages.specs.Holding.{extent, part_at, counts_of}
+use Rattle.messages.specs.Holding.{extent, counts_of}
 
 -- a row is passed, and its parts are owed
 pub extent_more : (n : ℕ) (counts : List ℕ) (i : ℕ) → 0 < n → i < length counts → extent n (drop i counts) ≡ 1 + extent (n - 1 + get_or counts i 0) (drop (i + 1) counts)

@@ -1,4 +1,6 @@
 // Reading a whole message at a level: its rows, or its first refusal.
+#![tactic(auto)]
+
 mod names;
 mod reading;
 mod walk;

@@ -1,9 +1,9 @@
 -- Bytes that are written in hexadecimal as they come.
-use Rattle.std.proofs.Common.{◌≡◌, ℕ, List, [], ◌∷◌, ◌++◌, sym, refl, ap, ◌∙◌, append_assoc, append-nil}
+use Rattle.std.proofs.Common.{◌≡◌, ℕ, List, [], ◌∷◌, ◌++◌, sym, ap, ◌∙◌, append_assoc, append-nil}
 use Rattle.std.specs.declared.fmt.Formatter.{Formatter}
 use Rattle.std.specs.Fmt.{IsPlainFormatter, HasWritten}
 use Rattle.std.proofs.Output.{writes_in_calls_nil, has_written_of_eq, has_written_append}
-use Rattle.hex_texts.specs.Hex.{hex_byte, hex_digits, hex_text}
+use Rattle.hex_texts.specs.Hex.{hex_byte, hex_digits}
 use Rattle.hex_texts.proofs.Digits.{hex_digits-append}
 
 module _ {W : Type 0} (took : W → List ℕ → W → Type 0) where

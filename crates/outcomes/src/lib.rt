@@ -1,4 +1,6 @@
 // What is said of a message: its rows or its refusal.
+#![tactic(auto)]
+
 mod outcome;
 mod row;
 

@@ -1,4 +1,6 @@
 // How many messages came to what.
+#![tactic(auto)]
+
 ghost use Rattle.std.specs.Prelude.{◌≡◌, replicate, Some};
 ghost use Rattle.totals.specs.Totals.{accepting, refusing, refusal_count, refusal_counts, totals_text};
 

@@ -1,7 +1,6 @@
 -- Messages as trees of rows: the same rows, and what is written for them is the canonical form.
-use Rattle.std.proofs.Common.{◌≡◌, ℕ, suc, ◌+◌, Bool, true, false, cond, List, [], ◌∷◌, ◌++◌, drop, ℤ, pos, codes, sym, refl, ap, ◌∙◌, append_assoc, append-nil, arith}
+use Rattle.std.proofs.Common.{◌≡◌, ℕ, suc, ◌+◌, Bool, true, false, cond, List, [], ◌∷◌, ◌++◌, drop, pos, sym, refl, ap, ◌∙◌, append_assoc, append-nil, arith}
 use Rattle.std.specs.Fmt.{digits}
-use Rattle.wire.specs.declared.kind.Kind.{Kind}
 use Rattle.wire.specs.declared.kind.Kind.TheVariants as kind
 use Rattle.wire.specs.Trees.{Content, Value, Members, Values, Message, int, boolean, string, double, date, base64, struct, array, member, end, value, call, response, fault, member_count, value_count, value_rows, members_rows, values_rows, message_rows, text_row, number_row, holder_row}
 use Rattle.wire.specs.Trees as tree
@@ -10,11 +9,10 @@ use Rattle.numbers.specs.Ints.{int_spelling}
 use Rattle.numbers.specs.Doubles.{double_spelling}
 use Rattle.base64_texts.specs.Base64.{base64_spelling}
 use Rattle.characters.specs.Spelling.{characters_spelling}
-use Rattle.parts.specs.declared.name.Name.{Name}
 use Rattle.parts.specs.declared.name.Name.TheVariants as name
 use Rattle.canonical.specs.Forms.{declaration, open_tag, close_tag, element, typed_form, members_form, values_form, value_form, params_form, call_params, message_form, canonical}
 use Rattle.writer.specs.Nodes.{Node, Nodes, node, none, also, how_many, node_rows, nodes_rows, node_form, nodes_form, Counts, CountAll}
-use Rattle.writer.specs.Tables.{front_of, spelling_of, back_of, close_of, before_of, after_of, params_open, params_close}
+use Rattle.writer.specs.Tables.{params_open, params_close}
 
 unfoldable mutual
   pub value_node : Value → Node

@@ -1,5 +1,5 @@
 -- Base64 letters, group by group.
-use Rattle.std.proofs.Common.{◌≡◌, ℕ, List, [], ◌∷◌, ◌++◌, length, Some, None, Option, sym, refl, ap, ◌∙◌, append-nil, arith, MatchOption}
+use Rattle.std.proofs.Common.{◌≡◌, ℕ, List, [], ◌∷◌, ◌++◌, length, Some, None, Option, sym, ap, ◌∙◌, append-nil, arith, MatchOption}
 use Rattle.base64_texts.specs.Base64.{base64_spelling}
 use Rattle.writer.specs.Texts.{group_of}
 

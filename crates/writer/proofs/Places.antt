@@ -1,8 +1,8 @@
 -- Bytes put at a place of a page, one behind another.
-use Rattle.std.proofs.Common.{◌≡◌, ℕ, ◌+◌, ◌-◌, ◌^◌, ◌<◌, ◌≤◌, min, List, [], ◌∷◌, ◌++◌, length, take, drop, Some, None, Option, sym, refl, ap, ◌∙◌, subst, append_assoc, append-nil, arith, length-append, length-drop}
+use Rattle.std.proofs.Common.{◌≡◌, ℕ, ◌+◌, ◌-◌, ◌^◌, ◌<◌, ◌≤◌, List, [], ◌++◌, length, take, drop, Some, None, Option, sym, refl, ap, ◌∙◌, subst, append_assoc, append-nil, arith, length-append, length-drop}
 use Rattle.std.proofs.lemmas.List.{drop-drop, drop_all, drop_at, take_at, length-take-le, take-append-drop}
 use Rattle.texts.specs.Pages.{Writes}
-use Rattle.writer.specs.Pages.{pasted, reached, Put}
+use Rattle.writer.specs.Pages.{pasted, Put}
 
 -- a part of a page that was written over
 pub put_mid_lem : (page bytes : List ℕ) (at k : ℕ) → k ≡ length bytes → take at page ++ (bytes ++ drop k (drop at page)) ≡ pasted page at bytes

@@ -1,4 +1,6 @@
 // Writing held messages in their canonical form.
+#![tactic(auto)]
+
 mod marks;
 mod part;
 mod put;

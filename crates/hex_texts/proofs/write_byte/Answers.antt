@@ -1,4 +1,4 @@
-use Rattle.std.proofs.Common.{◌≡◌, ◌/◌, ◌%◌, ◌<◌, [], ◌∷◌, ◌++◌, refl, ap, ◌∙◌, arith, rules}
+use Rattle.std.proofs.Common.{◌≡◌, ◌/◌, ◌%◌, [], ◌∷◌, ◌++◌, refl, ap, ◌∙◌, rules}
 use lib.Utf8.{encode}
 use Rattle.std.proofs.Output.{has_written_of_eq, has_written_append}
 use Rattle.std.proofs.lemmas.Str.{encode_ascii}

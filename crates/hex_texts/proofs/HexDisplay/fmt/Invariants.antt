@@ -1,4 +1,4 @@
-use Rattle.std.proofs.Common.{◌≡◌, take}
+use Rattle.std.proofs.Common.{take}
 use Rattle.std.specs.Fmt.{IsPlainFormatter, HasWritten}
 use Rattle.hex_texts.specs.Hex.{hex_digits}
 use Rattle.hex_texts.proofs.HexDisplay.fmt.Given as goal

@@ -1,4 +1,4 @@
-use Rattle.std.proofs.Common.{◌≡◌, ◌+◌, map, length, sym, ap, ◌∙◌, subst, arith}
+use Rattle.std.proofs.Common.{◌+◌, map, length, sym, ap, ◌∙◌, subst, arith}
 use Rattle.reader.specs.Contents.{content_of}
 use Rattle.messages.specs.Repeats.{RepeatBelow, Least}
 use Rattle.messages.proofs.RepeatedNames.{comes_said, below_next, below_same, below_all}

@@ -1,8 +1,6 @@
-use Rattle.std.proofs.Common.{◌≡◌, ℕ, ◌+◌, ◌-◌, ◌<◌, ◌≤◌, [], length, get_or, take, sym, refl, ap, ◌∙◌, subst, arith}
-use Rattle.std.proofs.lemmas.List.{get_or-take}
-use Rattle.wire.specs.Rows.{blank_row}
+use Rattle.std.proofs.Common.{◌≡◌, ◌+◌, ◌-◌, ◌<◌, length, get_or, take, sym, refl, ap, ◌∙◌, subst, arith}
 use Rattle.characters.specs.Decoding.{decoded}
-use Rattle.messages.specs.Sorted.{name_at, Belongs, member_name}
+use Rattle.messages.specs.Sorted.{name_at, Belongs}
 use Rattle.messages.proofs.Seen.{Seen, seen_more, seen_none}
 use Rattle.messages.proofs.names.repeat_in.Goals as goal
 

@@ -1,4 +1,4 @@
-use Rattle.std.proofs.Common.{◌≡◌, ℕ, ◌+◌, ◌-◌, ◌/◌, ◌<◌, List, length, get_or, sym, ap, subst, arith}
+use Rattle.std.proofs.Common.{◌+◌, ◌-◌, ◌/◌, ◌<◌, length, subst, arith}
 use Rattle.characters.specs.Decoding.{decoded}
 use Rattle.messages.specs.Order.{Precedes}
 use Rattle.messages.proofs.Seeking.{all_below, all_above}

@@ -1,4 +1,4 @@
-use Rattle.std.proofs.Common.{◌≡◌, ℕ, ◌-◌, ◌<◌, ◌≤◌, length, get_or}
+use Rattle.std.proofs.Common.{ℕ, ◌-◌, ◌<◌, ◌≤◌, length, get_or}
 use Rattle.characters.specs.Decoding.{decoded}
 use Rattle.messages.specs.Sorted.{name_at}
 use Rattle.messages.specs.Order.{Precedes}

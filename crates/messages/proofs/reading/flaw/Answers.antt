@@ -1,7 +1,6 @@
-use Rattle.std.proofs.Common.{◌≡◌, ◌<◌, length, sym, refl, ap, ◌∙◌, subst, arith}
+use Rattle.std.proofs.Common.{sym, ◌∙◌, subst, arith}
 use Rattle.std.proofs.lemmas.List.{length-map}
 use Rattle.std.proofs.lemmas.Bool.{false≢true}
-use Rattle.wire.specs.Trees.{message_rows}
 use Rattle.reader.specs.Contents.{content_of}
 use Rattle.messages.specs.Answers.{name_repeats, bad_fault}
 use Rattle.messages.specs.Repeats.{RepeatAt}

@@ -1,4 +1,4 @@
-use Rattle.std.proofs.Common.{◌≡◌, ◌+◌, ◌-◌, ◌^◌, ◌<◌, ◌≤◌, length, get_or, drop, sym, refl, ap, ◌∙◌, arith}
+use Rattle.std.proofs.Common.{◌+◌, ◌-◌, ◌^◌, ◌<◌, length, get_or, drop, ap, arith}
 use Rattle.wire.specs.Rows.{blank_row}
 use Rattle.messages.specs.Holding.{extent, counts_of}
 use Rattle.messages.proofs.Walked.{extent_more, extent_end, count_at, counts_length}

@@ -1,4 +1,4 @@
-use Rattle.std.proofs.Common.{◌≡◌, [], ◌∷◌, sym, refl, ap, ◌∙◌}
+use Rattle.std.proofs.Common.{◌≡◌, ◌∷◌, sym, refl, ap, ◌∙◌}
 use Rattle.std.proofs.Output.{has_written_of_eq, has_written_append}
 use Rattle.characters.specs.Decoding.{decoded}
 use Rattle.characters.specs.Left.{left}

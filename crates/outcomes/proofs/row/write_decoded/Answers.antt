@@ -1,4 +1,4 @@
-use Rattle.std.proofs.Common.{◌≡◌, [], ◌∷◌, sym, refl, ap, ◌∙◌}
+use Rattle.std.proofs.Common.{◌≡◌, ◌∷◌, sym, refl, ap, ◌∙◌}
 use Rattle.std.proofs.Output.{has_written_of_eq, has_written_append}
 use Rattle.base64_texts.specs.Base64.{decoded}
 use Rattle.base64_texts.specs.Cursor.{left}

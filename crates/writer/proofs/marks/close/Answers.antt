@@ -1,4 +1,4 @@
-use Rattle.std.proofs.Common.{◌≡◌, ℕ, zero, suc, sym, refl, ap, ◌∙◌, arith}
+use Rattle.std.proofs.Common.{◌≡◌, ℕ, zero, suc, sym, refl, ap, ◌∙◌}
 use Rattle.writer.specs.Tables.{close_of, params_close}
 use Rattle.writer.proofs.marks.close.Goals as goal
 

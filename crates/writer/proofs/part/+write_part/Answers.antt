@@ -1,5 +1,5 @@
-use Rattle.std.proofs.Common.{◌≡◌, ℕ, suc, ◌+◌, ◌^◌, ◌<◌, List, ◌++◌, length, get_or, sym, refl, ap, ◌∙◌, subst, append_assoc, append-nil, add-one, arith, length-append, rules}
-use Rattle.held.specs.Told.{no_row, facts_of}
+use Rattle.std.proofs.Common.{◌≡◌, ℕ, suc, ◌+◌, ◌^◌, ◌<◌, List, ◌++◌, length, sym, ap, ◌∙◌, subst, add-one, arith, length-append}
+use Rattle.held.specs.Told.{facts_of}
 use Rattle.wire.specs.declared.kind.Kind.{Kind}
 use Rattle.writer.specs.Nodes.{none, own_row, parts_of, how_many, node_rows, nodes_rows, nodes_form, node_form, opening_of}
 use Rattle.writer.specs.Pages.{Put}

@@ -1,4 +1,4 @@
-use Rattle.std.proofs.Common.{◌≡◌, ℕ, ◌+◌, ◌-◌, ◌<◌, ◌≤◌, List, ◌++◌, length, drop}
+use Rattle.std.proofs.Common.{◌≡◌, ◌+◌, ◌-◌, ◌<◌, List, ◌++◌, length, drop}
 use Rattle.wire.specs.Trees.{Content}
 use Rattle.writer.specs.Pages.{Put}
 use Rattle.writer.specs.Nodes.{Node, own_row, parts_of, node_rows, nodes_rows, nodes_form, Counts}

@@ -1,5 +1,5 @@
-use Rattle.std.proofs.Common.{◌≡◌, ◌++◌, get_or, sym, refl, ap, ◌∙◌, subst}
-use Rattle.held.specs.Told.{no_row, facts_of}
+use Rattle.std.proofs.Common.{◌++◌, get_or, subst}
+use Rattle.held.specs.Told.{no_row}
 use Rattle.writer.specs.Pages.{Put}
 use Rattle.writer.specs.Tables.{front_of, spelling_of, back_of}
 use Rattle.writer.proofs.Places.{put_both}

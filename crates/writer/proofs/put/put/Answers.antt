@@ -1,6 +1,5 @@
-use Rattle.std.proofs.Common.{◌≡◌, ◌+◌, ◌-◌, length, sym, refl, ap, ◌∙◌, arith}
+use Rattle.std.proofs.Common.{◌+◌, ◌-◌, length, ap, ◌∙◌, arith}
 use borrow.Rule.Slice.PartMut.{put_mid}
-use Rattle.writer.specs.Pages.{Put}
 use Rattle.writer.proofs.Places.{put_mid_lem}
 use Rattle.writer.proofs.put.put.Goals.{then-at-page+then-len-page, else-at-page, else-at-page-via-then-at-page+else-len-page, else-at-page-via-else-at-page}
 use Rattle.writer.proofs.put.put.Goals as goal

@@ -1,7 +1,6 @@
-use Rattle.std.proofs.Common.{◌≡◌, ◌^◌, ◌<◌, [], ◌∷◌, ◌++◌, sym, refl, ap, ◌∙◌, subst, arith}
+use Rattle.std.proofs.Common.{◌^◌, ◌<◌, [], ◌++◌, sym, refl, ap, ◌∙◌, arith}
 use Rattle.base64_texts.specs.Base64.{base64_spelling}
 use Rattle.held.specs.Texts.{left}
-use Rattle.writer.specs.Pages.{Put}
 use Rattle.writer.proofs.Groups.{group}
 use Rattle.writer.proofs.Places.{put_none, put_more}
 use Rattle.writer.proofs.put.put_base64.Goals as goal

@@ -1,9 +1,9 @@
-use Rattle.std.proofs.Common.{◌≡◌, ◌+◌, ◌-◌, length, drop, sym, refl, ap, ◌∙◌, subst, arith, w64, to_z, of_z}
+use Rattle.std.proofs.Common.{length, drop, ap, ◌∙◌, subst, arith, w64, to_z, of_z}
 use Rattle.std.proofs.lemmas.Int.{to_z-of_z}
 use Rattle.std.proofs.lemmas.List.{take_rest}
 use Rattle.numbers.specs.Doubles.{double_spelling}
 use Rattle.texts.specs.Pages.{Writes}
-use Rattle.writer.specs.Pages.{Put, reached}
+use Rattle.writer.specs.Pages.{reached}
 use Rattle.writer.proofs.Places.{put_rest}
 use Rattle.writer.proofs.put.put_double.Goals.{then-at-all, else-at-all}
 use Rattle.writer.proofs.put.put_double.Goals as goal

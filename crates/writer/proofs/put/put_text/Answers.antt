@@ -1,4 +1,4 @@
-use Rattle.std.proofs.Common.{◌≡◌, ◌^◌, ◌<◌, [], ◌∷◌, ◌++◌, sym, refl, ap, ◌∙◌, subst, arith}
+use Rattle.std.proofs.Common.{◌^◌, ◌<◌, [], refl, ap, arith}
 use Rattle.std.specs.List.{flat_map}
 use Rattle.held.specs.Texts.{left}
 use Rattle.writer.proofs.Places.{put_none, put_more}

@@ -1,4 +1,4 @@
-use Rattle.std.proofs.Common.{◌≡◌, [], length, ap, ◌∙◌, arith}
+use Rattle.std.proofs.Common.{[], length, ap, arith}
 use Rattle.writer.proofs.AsNodes.{message_node, message_counts, message_form_lem, from_first}
 use Rattle.writer.proofs.whole.canonical_len.Goals as goal
 

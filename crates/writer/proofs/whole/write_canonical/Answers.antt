@@ -1,6 +1,5 @@
 use Rattle.std.proofs.Common.{◌≡◌, ◌+◌, ◌^◌, ◌<◌, ◌≤◌, [], ◌++◌, length, drop, ap, ◌∙◌, arith}
 use Rattle.canonical.specs.Forms.{canonical}
-use Rattle.writer.specs.Nodes.{node_form}
 use Rattle.writer.proofs.AsNodes.{message_node, message_counts, message_form_lem, from_first}
 use Rattle.writer.proofs.whole.write_canonical.Goals as goal
 

@@ -1,4 +1,4 @@
-use Rattle.std.proofs.Common.{◌-◌, ◌≤◌, length}
+use Rattle.std.proofs.Common.{◌-◌, length}
 use Rattle.console.proofs.input.Input.line.Given as goal
 
 abbrev pub decreases-loop-len : goal.decreases-loop-len
