@@ -14,7 +14,7 @@ use Rattle.parts.specs.declared.tag.Tag.{Tag}
 use Rattle.parts.specs.declared.tag.Tag.TheVariants.{Open, Close}
 use Rattle.parts.specs.declared.tag.Spelling.{Spelling}
 use Rattle.parts.specs.Names.{spelled, likely}
-use Rattle.parts.specs.Tags.{named, in_name, name_len, name_end, spelling, close_by, open_by, close_tag, open_tag, tag_of}
+use Rattle.parts.specs.Tags.{named, in_name, name_len, name_end, AtFront, spelling, close_by, open_by, close_tag, open_tag, tag_of}
 use Rattle.parts.specs.Cutting.{AreBlank, Spells, opens, opens_and_closes, closes}
 use Rattle.parts.proofs.Spelled.{likely_spelled}
 
@@ -131,6 +131,21 @@ module _ (n : Name) (blanks : List ℕ) (h : AreBlank blanks) (c : ℕ) (bs : Li
       (λ i. close_by (named (at_name i)) (at_end i) (get_or all (at_end i) 0))
       ∙ (λ i. close_by (named_spelled n i) (length (spelled n) + length blanks) (at_first i))
 
+inside : (bs : List ℕ) (i c : ℕ) → 0 < c → get_or bs i 0 ≡ c → i < length bs
+inside bs i c some h = ⊎_elim (λ lt. lt) (λ ge. absurd (let past = get_or_past bs i 0 ge in omega arith)) (cases_lt i (length bs))
+
+-- a name right behind which stands a byte that is neither in a name nor blank
+pub at_front : (bs : List ℕ) (n : Name) (c : ℕ) → in_name c ≡ false → is_blank c ≡ false → 0 < c →
+    spelled n ≡ take (length (spelled n)) bs → get_or bs (length (spelled n)) 0 ≡ c → AtFront bs (n, length (spelled n))
+at_front bs n c cn cb some front h =
+    let len = length (spelled n) in
+    let rest = drop (len + 1) bs in
+    let in_it : len < length bs = inside bs len c some h in
+    let whole : bs ≡ spelled n ++ (c ∷ rest) =
+    sym (take-append-drop len bs) ∙ (λ i. sym front i ++ (drop_more bs len 0 in_it ∙ ap (λ b. b ∷ rest) h) i) in
+    let end : len ≡ name_end (spelled n ++ (c ∷ rest)) = omega (arith, at_end n [] tt c rest cn cb) in
+    (ap (λ l. named (take (name_len l) l)) whole ∙ ap named (at_name n [] tt c rest cn cb) ∙ named_spelled n, end ∙ ap name_end (sym whole), omega (arith, in_it))
+
 regroup : (a b c d : List ℕ) → (a ++ (b ++ c)) ++ d ≡ a ++ (b ++ (c ++ d))
 regroup a b c d = append_assoc a (b ++ c) d ∙ ap (λ l. a ++ l) (append_assoc b c d)
 
@@ -167,9 +182,6 @@ pub record Split (bs : List ℕ) (c : Spelling) : Type 0 where
   pub spells : Spells c.tag c.empty word
   pub whole : bs ≡ word ++ rest
   pub long : length word ≡ c.len
-
-inside : (bs : List ℕ) (i c : ℕ) → 0 < c → get_or bs i 0 ≡ c → i < length bs
-inside bs i c some h = ⊎_elim (λ lt. lt) (λ ge. absurd (let past = get_or_past bs i 0 ge in omega arith)) (cases_lt i (length bs))
 
 module _ (bs : List ℕ) (x : Name) (is : named (take (name_len bs) bs) ≡ Some x) where
   -- the blanks behind the name

@@ -1,5 +1,5 @@
 -- The tag that bytes begin with.
-use Rattle.std.specs.Prelude.{ℕ, ◌+◌, Bool, true, false, cond, not, ◌&&◌, ◌||◌, List, take, drop, Some, None, Option, ◌==◌, slice_index}
+use Rattle.std.specs.Prelude.{◌≡◌, ℕ, ◌+◌, ◌≤◌, Bool, true, false, cond, not, ◌&&◌, ◌||◌, List, length, take, drop, Some, None, Option, ◌==◌, slice_index}
 use Rattle.std.specs.List.{prefix_len}
 use Rattle.std.specs.Str.{bytes_eq}
 use Rattle.texts.specs.Bytes.{is_blank}
@@ -28,6 +28,10 @@ name_len bs = prefix_len in_name bs
 
 abbrev pub name_end : List ℕ → ℕ
 name_end bs = name_len bs + prefix_len is_blank (drop (name_len bs) bs)
+
+-- this name is at the front, and the blanks behind it end there
+abbrev pub AtFront : List ℕ → Name × ℕ → Type 0
+AtFront bs p = (named (take (name_len bs) bs) ≡ Some p.0) × (p.1 ≡ name_end bs) × (p.1 ≤ length bs)
 
 abbrev pub spelling : Tag → Bool → ℕ → Spelling
 spelling t e n = record { tag = t; empty = e; len = n }

@@ -1,6 +1,6 @@
 // The tag that bytes begin with.
 ghost use Rattle.std.specs.Prelude.{◌≡◌, ℕ, ◌+◌, ◌<◌, ◌≤◌, Bool, length, take, IfSome, Some, None, MatchOption, slice_index};
-ghost use Rattle.parts.specs.Tags.{element_of, in_name, named, close_tag, open_tag, name_len, name_end, tag_of};
+ghost use Rattle.parts.specs.Tags.{element_of, AtFront, in_name, named, close_tag, open_tag, name_len, name_end, tag_of};
 
 use crate::name::Name;
 use texts::bytes::{Blank, Class, leading_of};
@@ -49,10 +49,60 @@ fn byte_at(bytes: &[u8], i: usize) -> u8
     if i < bytes.len() { bytes[i] } else { 0 }
 }
 
+// This name and its end, where the bytes begin with it and `>` or `/` stands right behind it.
+fn ended(bytes: &[u8], name: Name) -> Option<(Name, usize)>
+    ensures { IfSome result (AtFront bytes.now) }
+{
+    let spelled = name.spelling();
+    if !bytes.starts_with(spelled) {
+        return None;
+    }
+    let end = spelled.len();
+    match byte_at(bytes, end) {
+        b'>' | b'/' => Some((name, end)),
+        _ => None,
+    }
+}
+
+// The name that the bytes begin with, where `>` or `/` stands right behind it: one or two bytes tell which
+// it can be. Nothing is also given for names that come once in a message.
+fn plain_name(bytes: &[u8]) -> Option<(Name, usize)>
+    ensures { IfSome result (AtFront bytes.now) }
+{
+    match byte_at(bytes, 0) {
+        b'v' => ended(bytes, Name::Value),
+        b'm' => ended(bytes, Name::Member),
+        b'n' => ended(bytes, Name::MemberName),
+        b'p' => ended(bytes, Name::Param),
+        b'a' => ended(bytes, Name::Array),
+        b's' => match byte_at(bytes, 3) {
+            b'i' => ended(bytes, Name::String),
+            _ => ended(bytes, Name::Struct),
+        },
+        b'i' => match byte_at(bytes, 1) {
+            b'n' => ended(bytes, Name::Int),
+            _ => ended(bytes, Name::I4),
+        },
+        b'b' => match byte_at(bytes, 1) {
+            b'o' => ended(bytes, Name::Boolean),
+            _ => ended(bytes, Name::Base64),
+        },
+        b'd' => match byte_at(bytes, 3) {
+            b'a' => ended(bytes, Name::Data),
+            b'b' => ended(bytes, Name::Double),
+            _ => ended(bytes, Name::DateTime),
+        },
+        _ => None,
+    }
+}
+
 // The name that the bytes begin with, and where the blanks behind it end.
 fn named_until(bytes: &[u8]) -> Option<(Name, usize)>
     ensures { MatchOption result (named (take (name_len bytes.now) bytes.now) ≡ None) (λ p. (named (take (name_len bytes.now) bytes.now) ≡ Some p.0) × (p.1 ≡ name_end bytes.now) × (p.1 ≤ length bytes.now)) }
 {
+    if let Some(found) = plain_name(bytes) {
+        return Some(found);
+    }
     let len = leading_of::<NameByte>(bytes);
     let name = Name::from_spelling(&bytes[0..len])?;
     let rest = &bytes[len..bytes.len()];

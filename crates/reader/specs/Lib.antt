@@ -1,4 +1,5 @@
 pub mod Runs
+pub mod Moves
 pub mod Steps
 pub mod Grammar
 pub mod Contents

@@ -4,10 +4,11 @@ ghost use Rattle.wire.specs.declared.row.Row.{Row as SomeRow};
 ghost use Rattle.table.specs.declared.mode.Mode.TheVariants.{Start};
 ghost use Rattle.reader.specs.Runs.{span_at};
 ghost use Rattle.reader.specs.Steps.{st, inside_of, after_of, past_of, kind_of, holder_row, leave, nest, unnest, named, faulted, act, step, is_finished, finish};
+ghost use Rattle.reader.specs.Moves.{LeavesRow};
 ghost use Rattle.reader.specs.Held.{stack_of, state, outcome, Fit, Turn};
 
 use crate::frame::Frame;
-use crate::runs::{blank_run, run_row};
+use crate::runs::{blank_run, must_be_blank, run_row};
 use parts::tag::Tag;
 use table::mode::{ArrayMode, CallMode, Mode, Move, ResponseMode, Shape, StructMode, ValueMode};
 use table::moves::move_at;
@@ -241,6 +242,32 @@ impl Machine {
         self.steps += 1;
     }
 
+    // Does what a tag at a place does that leaves the run before it alone.
+    fn pass(&mut self, rows: &mut [Row], does: Option<Move>, place: usize) -> Result<(), Refusal>
+        requires fit { Fit self.old }
+        requires room { self.old.steps + 2 < 2 ^ 32 }
+        requires blank { LeavesRow does }
+        ensures { (row : SomeRow) → Turn 2 self.old (act slice_set does place row (stack_of self.old.stack self.old.depth) self.old.used rows.old) result self.new rows.new }
+    {
+        let Some(does) = does else {
+            return Err(Refusal::MisplacedTag(place));
+        };
+        match does {
+            Move::Enter(mode) => {
+                self.mode = mode;
+                Ok(())
+            }
+            Move::Leave => {
+                self.leave();
+                Ok(())
+            }
+            Move::Nest(shape) => self.nest(rows, shape, place),
+            Move::Unnest => self.unnest(rows, place),
+            Move::Fault => self.fault(place),
+            Move::Emit(_) | Move::Word | Move::Name => unreachable!(),
+        }
+    }
+
     // Does what a tag at a place does, with the row of the run before it.
     fn act(
         &mut self,
@@ -257,10 +284,6 @@ impl Machine {
             return Err(Refusal::MisplacedTag(place));
         };
         match does {
-            Move::Enter(mode) => {
-                self.mode = mode;
-                Ok(())
-            }
             Move::Emit(mode) => {
                 self.emit(rows, row);
                 self.mode = mode;
@@ -271,14 +294,10 @@ impl Machine {
                 self.leave();
                 Ok(())
             }
-            Move::Leave => {
-                self.leave();
-                Ok(())
-            }
-            Move::Nest(shape) => self.nest(rows, shape, place),
-            Move::Unnest => self.unnest(rows, place),
             Move::Name => self.name(row, place),
-            Move::Fault => self.fault(place),
+            Move::Enter(_) | Move::Leave | Move::Nest(_) | Move::Unnest | Move::Fault => {
+                self.pass(rows, Some(does), place)
+            }
         }
     }
 
@@ -296,8 +315,13 @@ impl Machine {
         requires short { at + length run.now < 2 ^ 32 }
         ensures { Turn 2 self.old (step slice_set (state self.old rows.old) at run.now place tag) result self.new rows.new }
     {
+        let does = move_at(self.mode, tag);
+        if must_be_blank(self.mode, tag) {
+            let _ = blank_run(at, run)?;
+            return self.pass(rows, does, place);
+        }
         let row = run_row(self.mode, tag, at, run)?;
-        self.act(rows, move_at(self.mode, tag), place, row)
+        self.act(rows, does, place, row)
     }
 
     // How many rows the message has so far, also past the end of the lent ones.

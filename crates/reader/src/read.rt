@@ -1,5 +1,7 @@
 // The parts of a message, read into lent rows.
-ghost use Rattle.std.specs.Prelude.{◌≡◌, ◌+◌, ◌^◌, ◌<◌, ◌≤◌, length, OnOk, slice_set};
+ghost use Rattle.std.specs.Prelude.{◌≡◌, ◌+◌, ◌^◌, ◌<◌, ◌≤◌, ◌||◌, ◌==◌, length, OnOk, slice_set};
+ghost use Rattle.std.specs.List.{prefix_len};
+ghost use Rattle.texts.specs.Bytes.{within as spans};
 ghost use Rattle.reader.specs.Derivations.{DerivedIsRead, ReadIsDerived, OneMessage};
 ghost use Rattle.reader.specs.Held.{Fit};
 ghost use Rattle.reader.specs.KnownCases.{KnownCases};
@@ -9,7 +11,7 @@ ghost use Rattle.characters.specs.References.{is_character};
 use crate::machine::Machine;
 use parts::reader::{Part, Reader, Token};
 use parts::tag::Tag;
-use texts::bytes::{Class, leading_of};
+use texts::bytes::{Class, all_of, leading_of};
 use wire::refusal::Refusal;
 use wire::row::{Row, blank_rows};
 
@@ -70,6 +72,32 @@ impl Class for MessageByte {
     }
 }
 
+// The bytes that most messages are made of: no tabs and no carriage returns, so that fewer tests tell them.
+pub struct UsualByte;
+
+impl Class for UsualByte {
+    ghost member = { λ b. spans 32 126 b || b == 10 };
+
+    fn has(byte: u8) -> bool {
+        matches!(byte, b' '..=b'~' | b'\n')
+    }
+}
+
+// How many bytes at the front may stand in a message. Mostly all may, which is told fast; only else is the
+// place of the first bad one looked for.
+fn good_bytes(message: &[u8]) -> usize
+    ensures value { result ≡ prefix_len is_character message.now }
+    ensures bound { result ≤ length message.now }
+{
+    if all_of::<UsualByte>(message) {
+        return message.len();
+    }
+    if all_of::<MessageByte>(message) {
+        return message.len();
+    }
+    leading_of::<MessageByte>(message)
+}
+
 // The rows of a message, or the first refusal, which may leave anything in the lent rows.
 fn try_rows(message: &[u8], rows: &mut [Row]) -> Result<usize, Refusal>
     ensures value { result ≡ within (length rows.old) (rows_of message.now) }
@@ -78,7 +106,7 @@ fn try_rows(message: &[u8], rows: &mut [Row]) -> Result<usize, Refusal>
     if message.len() > LONGEST {
         return Err(Refusal::MessageTooLong);
     }
-    let good = leading_of::<MessageByte>(message);
+    let good = good_bytes(message);
     if good < message.len() {
         return Err(Refusal::BadByte(good));
     }

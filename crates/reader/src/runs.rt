@@ -1,6 +1,8 @@
 // The row that a run gives, by where it stands and the tag behind it.
-ghost use Rattle.std.specs.Prelude.{◌≡◌, ℕ, ◌+◌, ◌^◌, ◌<◌, ◌≤◌, length};
+ghost use Rattle.std.specs.Prelude.{◌≡◌, ℕ, ◌+◌, ◌^◌, ◌<◌, ◌≤◌, true, List, length};
 ghost use Rattle.reader.specs.Runs.{span_at, number_row, blank_run, characters_run, plain_run, words_run, call_run, value_run, struct_run, run_row};
+ghost use Rattle.reader.specs.Moves.{LeavesRow};
+ghost use Rattle.table.specs.Entries.{lookup, entries};
 ghost use Rattle.table.specs.declared.mode.Plain.TheVariants.{Int, Boolean, Double, Date, Base64};
 ghost use Rattle.table.specs.declared.mode.CallMode.TheVariants.{Name as MethodName};
 
@@ -183,6 +185,28 @@ fn value_run(mode: ValueMode, tag: Tag, place: usize, bytes: &[u8]) -> Result<Ro
         },
         ValueMode::Text(plain) => plain_run(plain, place, bytes),
         ValueMode::Typed => blank_run(place, bytes),
+    }
+}
+
+// Whether a run must be blank, where it stands before this tag.
+pub(crate) fn must_be_blank(mode: Mode, tag: Tag) -> bool
+    ensures blank { result ≡ true → (p : ℕ) (bs : List ℕ) → run_row mode tag p bs ≡ blank_run p bs }
+    ensures leaves { result ≡ true → LeavesRow (lookup tag (entries mode)) }
+{
+    match mode {
+        Mode::Value(ValueMode::Begun) => match tag {
+            Tag::Open(_) => true,
+            Tag::Close(_) => false,
+        },
+        Mode::Value(ValueMode::Text(_)) => false,
+        Mode::Call(CallMode::Name) | Mode::Struct(StructMode::Name) => false,
+        Mode::Start
+        | Mode::Call(_)
+        | Mode::Response(_)
+        | Mode::Value(ValueMode::Typed)
+        | Mode::Struct(_)
+        | Mode::Array(_)
+        | Mode::Finished => true,
     }
 }
 

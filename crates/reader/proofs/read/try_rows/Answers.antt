@@ -15,8 +15,8 @@ returns-then-message-gt-LONGEST c = record { value = sym (ap (within (length c.a
 pub returns-then-good-message : goal.returns-then-good-message
 returns-then-good-message c =
     let msg = c.args.message.now in
-    let bad = bad_byte msg (omega arith) (omega (arith, c.leading_of-good.ensures.value)) in
-    record { value = sym (ap (within (length c.args.rows.now)) bad ∙ ap (λ k. Err (BadByte k)) (sym c.leading_of-good.ensures.value)); rows = tt }
+    let bad = bad_byte msg (omega arith) (omega (arith, c.good_bytes-good.ensures.value)) in
+    record { value = sym (ap (within (length c.args.rows.now)) bad ∙ ap (λ k. Err (BadByte k)) (sym c.good_bytes-good.ensures.value)); rows = tt }
 
 pub returns-in_err-used : goal.returns-in_err-used
 returns-in_err-used c =
@@ -24,7 +24,7 @@ returns-in_err-used c =
     let old = c.args.rows.now in
     let left = c.read_parts.new.rows in
     let e = c.in_err-used.field-0.0 in
-    let good : prefix_len is_character msg ≡ length msg = omega (arith, c.leading_of-good.ensures.value, c.leading_of-good.ensures.bound, c.if-good-message.false) in
+    let good : prefix_len is_character msg ≡ length msg = omega (arith, c.good_bytes-good.ensures.value, c.good_bytes-good.ensures.bound, c.if-good-message.false) in
     let told = heard_refusal (rows_in (reading put_at msg [])) old e left (length old) (heard msg old (Err e) left c.in_err-used.ensures) in
     let p = err_from_is_err_and c.from_residual.result c.from_residual.ensures.1 in
     rw (p.1, p.2) (record { value = told ∙ sym (ap (within (length old)) (good_bytes msg (omega arith) good)); rows = tt })
@@ -35,7 +35,7 @@ returns-then-used-rows c =
     let old = c.args.rows.now in
     let left = c.read_parts.new.rows in
     let used = c.in_ok-used.used in
-    let good : prefix_len is_character msg ≡ length msg = omega (arith, c.leading_of-good.ensures.value, c.leading_of-good.ensures.bound, c.if-good-message.false) in
+    let good : prefix_len is_character msg ≡ length msg = omega (arith, c.good_bytes-good.ensures.value, c.good_bytes-good.ensures.bound, c.if-good-message.false) in
     let came = heard_rows (rows_in (reading put_at msg [])) old used left (heard msg old (Ok used) left c.in_ok-used.ensures) in
     let kept = ap length came.over ∙ length-laid came.rs old in
     let more : length old < length came.rs = omega (arith, came.count, c.if-used-rows.true, kept) in
@@ -47,7 +47,7 @@ returns c =
     let old = c.args.rows.now in
     let left = c.read_parts.new.rows in
     let used = c.in_ok-used.used in
-    let good : prefix_len is_character msg ≡ length msg = omega (arith, c.leading_of-good.ensures.value, c.leading_of-good.ensures.bound, c.if-good-message.false) in
+    let good : prefix_len is_character msg ≡ length msg = omega (arith, c.good_bytes-good.ensures.value, c.good_bytes-good.ensures.bound, c.if-good-message.false) in
     let came = heard_rows (rows_in (reading put_at msg [])) old used left (heard msg old (Ok used) left c.in_ok-used.ensures) in
     let kept = ap length came.over ∙ length-laid came.rs old in
     let less : length came.rs ≤ length old = omega (arith, came.count, c.if-used-rows.false, kept) in

@@ -4,21 +4,6 @@ use Rattle.reader.specs.Held.{stack_of}
 use Rattle.reader.proofs.Stack.{stack_length}
 use Rattle.reader.proofs.machine.Machine.act.Goals as goal
 
-pub returns-in-Nest : goal.returns-in-Nest
-returns-in-Nest c =
-    let m = c.args.self.now in
-    let fs = stack_of m.stack m.depth in
-    let rs = c.args.rows.now in
-    let h = c.nest.ensures in
-    record {
-      fit = h.fit;
-      tick = h.tick;
-      does =
-          ap (λ v. act set v c.args.place c.args.row fs m.used rs) (c.in-Some.is ∙ ap Some c.in-Nest.is)
-          ∙ ap (λ n. nest set (ltb n 17) c.in-Nest.shape fs c.args.place m.used rs) (stack_length m.stack m.depth)
-          ∙ h.does;
-    }
-
 pub returns-in-Name : goal.returns-in-Name
 returns-in-Name c =
     let m = c.args.self.now in
@@ -29,16 +14,4 @@ returns-in-Name c =
       fit = h.fit;
       tick = omega (arith, h.tick);
       does = ap (λ v. act set v c.args.place c.args.row fs m.used rs) (c.in-Some.is ∙ ap Some c.in-Name.is) ∙ h.does;
-    }
-
-pub returns-in-Fault : goal.returns-in-Fault
-returns-in-Fault c =
-    let m = c.args.self.now in
-    let fs = stack_of m.stack m.depth in
-    let rs = c.args.rows.now in
-    let h = c.fault.ensures rs in
-    record {
-      fit = h.fit;
-      tick = omega (arith, h.tick);
-      does = ap (λ v. act set v c.args.place c.args.row fs m.used rs) (c.in-Some.is ∙ ap Some c.in-Fault.is) ∙ h.does;
     }
