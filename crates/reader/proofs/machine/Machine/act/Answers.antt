@@ -1,7 +1,6 @@
-use Rattle.std.proofs.Common.{ltb, set, Some, ap, ◌∙◌, arith}
-use Rattle.reader.specs.Steps.{nest, act}
+use Rattle.std.proofs.Common.{set, Some, ap, ◌∙◌, arith}
+use Rattle.reader.specs.Steps.{act}
 use Rattle.reader.specs.Held.{stack_of}
-use Rattle.reader.proofs.Stack.{stack_length}
 use Rattle.reader.proofs.machine.Machine.act.Goals as goal
 
 pub returns-in-Name : goal.returns-in-Name

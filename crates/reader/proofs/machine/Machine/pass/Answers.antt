@@ -1,4 +1,4 @@
-use Rattle.std.proofs.Common.{◌≡◌, ltb, set, Some, ap, ◌∙◌, arith}
+use Rattle.std.proofs.Common.{ltb, set, Some, ap, ◌∙◌, arith}
 use Rattle.reader.specs.Steps.{nest, act}
 use Rattle.reader.specs.Held.{stack_of}
 use Rattle.reader.proofs.Stack.{stack_length}
