@@ -10,7 +10,7 @@ loop-digit-preserved c =
     let ds = c.args.digits.now in
     let i = c.loop-digit.digit-index in
     let more : worth (take (i + 1) ds) ≡ worth (take i ds) * 10 + (get_or ds i 0 - 48) = ap worth (take_more ds i 0 (omega arith)) ∙ worth_after-append 0 (take i ds) (get_or ds i 0 ∷ []) in
-    omega (arith, c.saturating_sub.ensures, c.from-more.ensures, c.saturating_mul.ensures, c.saturating_add-number.ensures, c.loop-digit.invariant)
+    omega (arith, more, c.loop-digit.invariant)
 
 pub returns : goal.returns
 returns c =
