@@ -50,6 +50,7 @@ fn byte_at(bytes: &[u8], i: usize) -> u8
 }
 
 // This name and its end, where the bytes begin with it and `>` or `/` stands right behind it.
+#[inline(always)]
 fn ended(bytes: &[u8], name: Name) -> Option<(Name, usize)>
     ensures { IfSome result (AtFront bytes.now) }
 {
@@ -66,6 +67,7 @@ fn ended(bytes: &[u8], name: Name) -> Option<(Name, usize)>
 
 // The name that the bytes begin with, where `>` or `/` stands right behind it: one or two bytes tell which
 // it can be. Nothing is also given for names that come once in a message.
+#[inline(always)]
 fn plain_name(bytes: &[u8]) -> Option<(Name, usize)>
     ensures { IfSome result (AtFront bytes.now) }
 {
@@ -97,6 +99,7 @@ fn plain_name(bytes: &[u8]) -> Option<(Name, usize)>
 }
 
 // The name that the bytes begin with, and where the blanks behind it end.
+#[inline(always)]
 fn named_until(bytes: &[u8]) -> Option<(Name, usize)>
     ensures { MatchOption result (named (take (name_len bytes.now) bytes.now) ≡ None) (λ p. (named (take (name_len bytes.now) bytes.now) ≡ Some p.0) × (p.1 ≡ name_end bytes.now) × (p.1 ≤ length bytes.now)) }
 {
@@ -110,6 +113,7 @@ fn named_until(bytes: &[u8]) -> Option<(Name, usize)>
 }
 
 // The close tag that the bytes behind `</` begin with.
+#[inline(always)]
 fn close_tag(bytes: &[u8]) -> Option<Spelling>
     ensures value { result ≡ close_tag bytes.now }
     ensures within { IfSome result (λ s. s.len ≤ length bytes.now + 1) }
@@ -126,6 +130,7 @@ fn close_tag(bytes: &[u8]) -> Option<Spelling>
 }
 
 // The open tag that the bytes behind `<` begin with.
+#[inline(always)]
 fn open_tag(bytes: &[u8]) -> Option<Spelling>
     ensures value { result ≡ open_tag bytes.now }
     ensures within { IfSome result (λ s. s.len ≤ length bytes.now) }

@@ -243,6 +243,7 @@ impl Machine {
     }
 
     // Does what a tag at a place does that leaves the run before it alone.
+    #[inline(always)]
     fn pass(&mut self, rows: &mut [Row], does: Option<Move>, place: usize) -> Result<(), Refusal>
         requires fit { Fit self.old }
         requires room { self.old.steps + 2 < 2 ^ 32 }
@@ -269,6 +270,7 @@ impl Machine {
     }
 
     // Does what a tag at a place does, with the row of the run before it.
+    #[inline(always)]
     fn act(
         &mut self,
         rows: &mut [Row],
