@@ -1,23 +1,23 @@
 // Levels: how much working memory one message and its answer may take.
-ghost use Rattle.std.specs.Prelude.{◌≡◌, MatchResult, ◌≢◌};
-ghost use Rattle.wire.specs.Levels.{level_number, rows_at, ink_at};
-ghost use Rattle.wire.specs.declared.level.Level.{Level as SomeLevel};
-ghost use Rattle.wire.specs.declared.refusal.Refusal.TheVariants.{BadSetting};
+ghost use Rattle.std.specs.Prelude.{◌≡◌};
+ghost use Rattle.wire.specs.Levels.{level_number, IsLevelOf, rows_at, ink_at};
 
 use crate::refusal::Refusal;
 
-#[derive(Clone, Copy)]
+#[derive(Clone, Copy, Debug, PartialEq, Eq)]
 pub enum Level {
     One,
     Two,
     Three,
 }
 
-impl Level {
-    // The level that a number names.
-    pub fn from_number(number: usize) -> Result<Level, Refusal>
-        ensures { MatchResult result (λ level. number ≡ level_number level) (λ e. (e ≡ BadSetting) × ((level : SomeLevel) → number ≢ level_number level)) }
-    {
+// The level that a number names.
+impl TryFrom<usize> for Level {
+    type Error = Refusal;
+
+    ghost try_from_gives = { IsLevelOf };
+
+    fn try_from(number: usize) -> Result<Level, Refusal> {
         match number {
             1 => Ok(Level::One),
             2 => Ok(Level::Two),
@@ -25,7 +25,9 @@ impl Level {
             _ => Err(Refusal::BadSetting),
         }
     }
+}
 
+impl Level {
     // How many rows a message, and a response, may have.
     pub fn rows(self) -> usize
         ensures { result ≡ rows_at (level_number self) }

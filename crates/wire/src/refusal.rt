@@ -3,7 +3,7 @@ ghost use Rattle.std.specs.Prelude.{◌≡◌};
 ghost use Rattle.wire.specs.Refusals.{told};
 
 // One case for each number, in their order; each holds its place where it has one.
-#[derive(Clone, Copy)]
+#[derive(Clone, Copy, Debug, PartialEq, Eq)]
 pub enum Refusal {
     BadSetting,
     MemoryTooSmall,
@@ -26,7 +26,7 @@ pub enum Refusal {
 }
 
 impl Refusal {
-    // The number and the place by which a refusal is told.
+    // The number and the place by which a refusal is told. A pair by `From` would not say which is which.
     pub fn told(self) -> (u8, usize)
         ensures { result ≡ told self }
     {

@@ -5,14 +5,14 @@ ghost use Rattle.wire.specs.Rows.{blank_row, cleared, cut_from};
 use crate::kind::Kind;
 
 // The memory that the stored bytes of a text lie in.
-#[derive(Clone, Copy)]
+#[derive(Clone, Copy, Debug, PartialEq, Eq)]
 pub enum Store {
     Message,
     Ink,
 }
 
 // Where the stored bytes of a text lie.
-#[derive(Clone, Copy)]
+#[derive(Clone, Copy, Debug, PartialEq, Eq)]
 pub struct Span {
     pub store: Store,
     pub start: u32,
@@ -26,18 +26,12 @@ impl Span {
     {
         let start = self.start as usize;
         let len = self.len as usize;
-        if start >= memory.len() {
-            return &memory[0..0];
-        }
-        let rest = &memory[start..memory.len()];
-        if len >= rest.len() {
-            return rest;
-        }
-        &rest[0..len]
+        let rest = memory.get(start..).unwrap_or(&[]);
+        rest.get(..len).unwrap_or(rest)
     }
 }
 
-#[derive(Clone, Copy)]
+#[derive(Clone, Copy, Debug, PartialEq, Eq)]
 pub struct Row {
     pub kind: Kind,
     pub count: u32,
@@ -60,18 +54,37 @@ impl Row {
     };
 }
 
-// Blanks the first `n` rows, or all where there are fewer, and leaves the rest.
-pub fn blank_rows(rows: &mut [Row], n: usize)
-    ensures { rows.new ≡ cleared blank_row n rows.old }
-{
-    let n = n.min(rows.len());
-    rows[0..n].fill(Row::BLANK);
+// What fills memory that is not in use.
+pub trait Blank: Copy {
+    ghost blank: { Self };
+
+    fn blank() -> Self
+        ensures { result ≡ blank };
 }
 
-// Sets the first `n` bytes of ink to 0, or all where there are fewer, and leaves the rest.
-pub fn blank_ink(ink: &mut [u8], n: usize)
-    ensures { ink.new ≡ cleared 0 n ink.old }
+impl Blank for Row {
+    ghost blank = { blank_row };
+
+    fn blank() -> Row {
+        Row::BLANK
+    }
+}
+
+// Ink.
+impl Blank for u8 {
+    ghost blank = { 0 };
+
+    fn blank() -> u8 {
+        b'\0'
+    }
+}
+
+// Blanks the first `n` places of a memory, or all where there are fewer, and leaves the rest.
+pub fn blank_first<T: Blank>(memory: &mut [T], n: usize)
+    ensures { memory.new ≡ cleared T.Blank.blank n memory.old }
 {
-    let n = n.min(ink.len());
-    ink[0..n].fill(0);
+    let n = n.min(memory.len());
+    for place in &mut memory[..n] {
+        *place = T::blank();
+    }
 }
