@@ -4,7 +4,7 @@ ghost use Rattle.parts.specs.Names.{spelled, likely};
 ghost use Rattle.parts.specs.Tags.{named};
 ghost use Rattle.parts.specs.declared.name.Name.{Name as SomeName};
 
-#[derive(Clone, Copy)]
+#[derive(Clone, Copy, PartialEq, Eq, Debug)]
 pub enum Name {
     MethodCall,
     MethodResponse,

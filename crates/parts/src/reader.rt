@@ -12,13 +12,13 @@ use texts::bytes::{Class, leading_of};
 use wire::refusal::Refusal;
 
 // A part of a message: its bytes there, and their place.
-#[derive(Clone, Copy)]
+#[derive(Clone, Copy, PartialEq, Eq, Debug)]
 pub struct Part<'a> {
     pub place: usize,
     pub bytes: &'a [u8],
 }
 
-#[derive(Clone, Copy)]
+#[derive(Clone, Copy, PartialEq, Eq, Debug)]
 pub enum Token<'a> {
     Open(Name, Part<'a>),
     Close(Name, Part<'a>),
@@ -26,14 +26,14 @@ pub enum Token<'a> {
 }
 
 // A tag in `/>`, whose close tag is still to come.
-#[derive(Clone, Copy)]
+#[derive(Clone, Copy, PartialEq, Eq, Debug)]
 pub struct Emptied {
     name: Name,
     place: usize,
 }
 
 // What comes next.
-#[derive(Clone, Copy)]
+#[derive(Clone, Copy, PartialEq, Eq, Debug)]
 pub enum Next {
     Run,
     Tag,

@@ -5,7 +5,7 @@ ghost use Rattle.parts.specs.Tags.{element_of, AtFront, in_name, named, close_ta
 use crate::name::Name;
 use texts::bytes::{Blank, Class, leading_of};
 
-#[derive(Clone, Copy)]
+#[derive(Clone, Copy, PartialEq, Eq, Debug)]
 pub enum Tag {
     Open(Name),
     Close(Name),
@@ -23,7 +23,7 @@ impl Tag {
 }
 
 // A tag as it is spelled: whether it ends in `/>`, and how many bytes it takes behind its `<`.
-#[derive(Clone, Copy)]
+#[derive(Clone, Copy, PartialEq, Eq, Debug)]
 pub struct Spelling {
     pub tag: Tag,
     pub empty: bool,
