@@ -1,7 +1,11 @@
 // Where the reading of a message stands, and what a tag does there.
+ghost use Rattle.std.specs.Prelude.{◌≡◌};
+ghost use Rattle.table.specs.Entries.{element_of};
+
+use parts::name::Name;
 
 // Where the reading stands: what may come next.
-#[derive(Clone, Copy)]
+#[derive(Clone, Copy, Debug, PartialEq, Eq)]
 pub enum Mode {
     Start,
     Call(CallMode),
@@ -14,7 +18,7 @@ pub enum Mode {
 
 // In a call: at its beginning, in the method's name, behind it, among the parameters, in one, behind
 // its value, behind all of them.
-#[derive(Clone, Copy)]
+#[derive(Clone, Copy, Debug, PartialEq, Eq)]
 pub enum CallMode {
     Begun,
     Name,
@@ -25,7 +29,7 @@ pub enum CallMode {
     Done,
 }
 
-#[derive(Clone, Copy)]
+#[derive(Clone, Copy, Debug, PartialEq, Eq)]
 pub enum ResponseMode {
     Begun,
     Params,
@@ -37,7 +41,7 @@ pub enum ResponseMode {
     Done,
 }
 
-#[derive(Clone, Copy)]
+#[derive(Clone, Copy, Debug, PartialEq, Eq)]
 pub enum ValueMode {
     Begun,
     Text(Plain),
@@ -45,7 +49,7 @@ pub enum ValueMode {
 }
 
 // The elements that hold a text alone.
-#[derive(Clone, Copy)]
+#[derive(Clone, Copy, Debug, PartialEq, Eq)]
 pub enum Plain {
     Int,
     I4,
@@ -56,9 +60,26 @@ pub enum Plain {
     Base64,
 }
 
+// Its element.
+impl From<Plain> for Name {
+    ghost from_gives = { λ plain name. name ≡ element_of plain };
+
+    fn from(plain: Plain) -> Name {
+        match plain {
+            Plain::Int => Name::Int,
+            Plain::I4 => Name::I4,
+            Plain::Boolean => Name::Boolean,
+            Plain::String => Name::String,
+            Plain::Double => Name::Double,
+            Plain::Date => Name::DateTime,
+            Plain::Base64 => Name::Base64,
+        }
+    }
+}
+
 // In a struct: at its beginning or behind a member, in a member, in its name, behind the name, behind
 // its value.
-#[derive(Clone, Copy)]
+#[derive(Clone, Copy, Debug, PartialEq, Eq)]
 pub enum StructMode {
     Members,
     Member,
@@ -67,7 +88,7 @@ pub enum StructMode {
     MemberDone,
 }
 
-#[derive(Clone, Copy)]
+#[derive(Clone, Copy, Debug, PartialEq, Eq)]
 pub enum ArrayMode {
     Begun,
     Data,
@@ -75,7 +96,7 @@ pub enum ArrayMode {
 }
 
 // What holds values.
-#[derive(Clone, Copy)]
+#[derive(Clone, Copy, Debug, PartialEq, Eq)]
 pub enum Shape {
     Call,
     Response,
@@ -85,7 +106,7 @@ pub enum Shape {
 }
 
 // What a tag does where the grammar has it.
-#[derive(Clone, Copy)]
+#[derive(Clone, Copy, Debug, PartialEq, Eq)]
 pub enum Move {
     // Goes on there.
     Enter(Mode),
