@@ -14,5 +14,5 @@ pub mod PassedRuns
 pub mod Rest
 pub mod RowsSay
 pub mod Sound
-pub mod Stack
+pub mod Frames
 pub mod Whole

@@ -1,15 +1,15 @@
 -- The checks of a whole message, one after another.
-use Rattle.std.proofs.Common.{◌≡◌, ℕ, ◌<◌, ◌≤◌, min, eqb, ltb, leb, List, [], ◌++◌, length, drop, replicate, Ok, Err, Result, refl, ap, ◌∙◌, append-nil, arith}
+use Rattle.std.proofs.Common.{◌≡◌, ℕ, ◌<◌, ◌≤◌, min, eqb, ltb, leb, true, false, List, [], ◌++◌, length, drop, replicate, Ok, Err, Result, is_err, OnOk, refl, sym, ap, ◌∙◌, append-nil, arith}
 use Rattle.std.specs.List.{prefix_len}
 use Rattle.std.proofs.lemmas.List.{drop_all}
-use Rattle.std.proofs.lemmas.Bool.{cond-true, cond-false, lt-ltb, le-ltb, eq-eqb, ne_eqb, le-leb, lt-leb}
+use Rattle.std.proofs.lemmas.Bool.{cond-true, cond-false, lt-ltb, le-ltb, eq-eqb, ne_eqb, le-leb, lt-leb, true≢false, false≢true}
 use Rattle.wire.specs.declared.row.Row.{Row}
 use Rattle.wire.specs.declared.refusal.Refusal.{Refusal}
 use Rattle.wire.specs.declared.refusal.Refusal.TheVariants.{MessageTooLong, BadByte, TooManyRows}
-use Rattle.wire.specs.Rows.{cleared}
+use Rattle.wire.specs.Rows.{blank_row, cleared}
 use Rattle.characters.specs.References.{is_character}
 use Rattle.reader.specs.Steps.{put_at}
-use Rattle.reader.specs.Reading.{reading, rows_in, rows_of, within, laid}
+use Rattle.reader.specs.Reading.{reading, rows_in, rows_of, within, laid, left_by}
 use Rattle.reader.proofs.Memory.{Heard}
 
 pub too_long : (msg : List ℕ) → 65536 < length msg → rows_of msg ≡ Err MessageTooLong
@@ -55,3 +55,12 @@ pub all_cleared : (x : Row) (n : ℕ) (xs : List Row) → n ≡ length xs → cl
 all_cleared x n xs e =
     let all : min n (length xs) ≡ n = omega arith in
     ap (λ k. replicate k x ++ drop k xs) all ∙ ap (λ l. replicate n x ++ l) (drop_all n xs (omega arith)) ∙ append-nil (replicate n x)
+
+-- what is left where a reading was refused, and what holds where it was not
+pub refused_left : (r : Result ℕ Refusal) (out : Result (List Row) Refusal) (old : List Row) → is_err r ≡ true → left_by r out old ≡ replicate (length old) blank_row
+refused_left (Ok n) out old e = absurd (false≢true e)
+refused_left (Err x) out old e = refl
+
+pub where_read : (r : Result ℕ Refusal) (P : Type 0) → is_err r ≡ false → OnOk r P → P
+where_read (Ok n) P e h = h
+where_read (Err x) P e h = absurd (true≢false e)

@@ -1,6 +1,7 @@
 pub mod Runs
 pub mod Moves
 pub mod Steps
+pub mod Frames
 pub mod Grammar
 pub mod Contents
 pub mod Held

@@ -15,7 +15,7 @@ use Rattle.parts.specs.Readers.{piece_of}
 use Rattle.table.specs.declared.mode.Mode.TheVariants.{Start}
 use Rattle.reader.specs.declared.machine.Machine.{Machine}
 use Rattle.reader.specs.Steps.{St, st, judge, put_at}
-use Rattle.reader.specs.Held.{state, Fit}
+use Rattle.reader.specs.Held.{state}
 
 -- the parts behind the declaration, read over rows
 abbrev pub read_from : (List Row → ℕ → Row → List Row) → List ℕ → List Row → Option ℕ → Result St Refusal
@@ -50,7 +50,6 @@ ShortThen (Err e) = Unit {0}
 
 -- what a machine that is fed a token, with a run in hand, leaves
 pub record Fed (m : Machine) (rs : List Row) (run : Part) (t : Token) (r : Result Part Refusal) (m' : Machine) (rs' : List Row) : Type 0 where
-  pub fit : Fit m'
   pub tick : m'.steps ≤ m.steps + 2
   pub short : ShortThen r
   pub does : (ps : Parts) (len : ℕ) → judge slice_set (state m rs) run.place run.bytes.now (piece_of t then ps) len ≡ goes_on r (state m' rs') ps len

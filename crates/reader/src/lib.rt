@@ -6,6 +6,7 @@ mod frame;
 mod machine;
 mod read;
 mod runs;
+mod stack;
 
 pub use fault::fault_fits;
 pub use read::read_rows;

@@ -1,37 +1,29 @@
 // The reading of a message, one run and tag at a time, into lent rows.
-ghost use Rattle.std.specs.Prelude.{◌≡◌, ℕ, ◌+◌, ◌^◌, ◌<◌, ◌≤◌, List, [], length, nat_lt, slice_set};
+ghost use Rattle.std.specs.Prelude.{◌≡◌, ℕ, ◌+◌, ◌^◌, ◌<◌, ◌≤◌, List, [], length, All, slice_set, nat_lt};
 ghost use Rattle.wire.specs.declared.row.Row.{Row as SomeRow};
 ghost use Rattle.table.specs.declared.mode.Mode.TheVariants.{Start};
-ghost use Rattle.reader.specs.Runs.{span_at};
-ghost use Rattle.reader.specs.Steps.{st, inside_of, after_of, past_of, kind_of, holder_row, leave, nest, unnest, named, faulted, act, step, is_finished, finish};
+ghost use Rattle.reader.specs.Steps.{st, inside_of, after_of, past_of, leave, nest, unnest, named, faulted, act, step, finish};
 ghost use Rattle.reader.specs.Moves.{LeavesRow};
-ghost use Rattle.reader.specs.Held.{stack_of, state, outcome, Fit, Turn};
 
 use crate::frame::Frame;
 use crate::runs::{blank_run, must_be_blank, run_row};
+use crate::stack::Stack;
 use parts::tag::Tag;
 use table::mode::{ArrayMode, CallMode, Mode, Move, ResponseMode, Shape, StructMode, ValueMode};
 use table::moves::move_at;
-use wire::kind::Kind;
 use wire::refusal::Refusal;
-use wire::row::{Row, Span, Store};
+use wire::row::Row;
 
-// The message, and at most sixteen structs and arrays in it.
-const DEEPEST: usize = 17;
-
-const NO_TEXT: Span = Span {
-    store: Store::Message,
-    start: 0,
-    len: 0,
-};
-
+// Where the reading stands, what is open, how many rows there are, also past the end of the lent ones, and how many
+// steps were made, which bounds what is counted.
 #[derive(Drop)]
-pub struct Machine {
+pub(crate) struct Machine {
     mode: Mode,
-    stack: [Frame; 17],
-    depth: usize,
+    stack: Stack,
     used: usize,
     steps: usize,
+    ghost rows: { used ≤ steps },
+    ghost counts: { All (λ frame. frame.count ≤ steps) stack },
 }
 
 // Where what holds values begins.
@@ -70,28 +62,7 @@ fn past(shape: Shape) -> Mode
     }
 }
 
-// The row of what held values and is closed.
-fn holder_row(frame: Frame) -> Row
-    requires { frame.count < 2 ^ 32 }
-    ensures { result ≡ holder_row frame }
-{
-    let kind = match frame.shape {
-        Shape::Call => Kind::Call,
-        Shape::Response => Kind::Response,
-        Shape::Fault => Kind::Fault,
-        Shape::Struct => Kind::Struct,
-        Shape::Array => Kind::Array,
-    };
-    Row {
-        kind,
-        count: frame.count as u32,
-        number: 0,
-        scale: 0,
-        text: frame.name,
-    }
-}
-
-// Puts a row at an index; past the end of the rows nothing is put.
+// Puts a row at an index; past the end of the rows nothing is put. Of what `get_mut` lends nothing is known later.
 fn store(rows: &mut [Row], i: usize, row: Row)
     ensures { rows.new ≡ slice_set rows.old i row }
 {
@@ -101,21 +72,15 @@ fn store(rows: &mut [Row], i: usize, row: Row)
 }
 
 impl Machine {
+    ghost use Rattle.reader.specs.Held.{state, outcome, Turn};
+
     pub(crate) fn new() -> Machine
-        ensures fit { Fit result }
         ensures steps { result.steps ≡ 0 }
         ensures state { (rs : List SomeRow) → state result rs ≡ st Start [] 0 rs }
     {
-        let free = Frame {
-            shape: Shape::Call,
-            row: 0,
-            count: 0,
-            name: NO_TEXT,
-        };
         Machine {
             mode: Mode::Start,
-            stack: [free; 17],
-            depth: 0,
+            stack: Stack::new(),
             used: 0,
             steps: 0,
         }
@@ -123,46 +88,36 @@ impl Machine {
 
     // A value is closed.
     fn leave(&mut self)
-        requires fit { Fit self.old }
-        requires room { self.old.steps < 2 ^ 32 }
-        ensures fit { Fit self.new }
+        requires { self.old.steps < 2 ^ 32 }
         ensures tick { self.new.steps ≡ self.old.steps + 1 }
-        ensures does { (rs : List SomeRow) → state self.new rs ≡ leave (stack_of self.old.stack self.old.depth) self.old.used rs }
+        ensures does { (rs : List SomeRow) → state self.new rs ≡ leave self.old.stack self.old.used rs }
     {
         self.steps += 1;
-        if self.depth == 0 {
+        let Some(holder) = self.stack.pop() else {
             self.mode = Mode::Finished;
             return;
-        }
-        let top = self.depth - 1;
-        let f = self.stack[top];
-        self.stack[top] = Frame {
-            shape: f.shape,
-            row: f.row,
-            count: f.count + 1,
-            name: f.name,
         };
-        self.mode = after(f.shape);
+        self.mode = after(holder.shape);
+        self.stack.push(Frame {
+            count: holder.count + 1,
+            ..holder
+        });
     }
 
     // What holds values opens.
     fn nest(&mut self, rows: &mut [Row], shape: Shape, place: usize) -> Result<(), Refusal>
-        requires fit { Fit self.old }
-        requires room { self.old.steps < 2 ^ 32 }
-        ensures { Turn 2 self.old (nest slice_set (nat_lt self.old.depth 17) shape (stack_of self.old.stack self.old.depth) place self.old.used rows.old) result self.new rows.new }
+        requires { self.old.steps < 2 ^ 32 }
+        ensures { Turn 2 self.old (nest slice_set (nat_lt (length self.old.stack) 17) shape self.old.stack place self.old.used rows.old) result self.new rows.new }
     {
-        if self.depth >= DEEPEST {
+        if self.stack.is_full() {
             return Err(Refusal::TooDeep(place));
         }
-        let n = self.depth;
         store(rows, self.used, Row::BLANK);
-        self.stack[n] = Frame {
+        self.stack.push(Frame {
             shape,
             row: self.used,
-            count: 0,
-            name: NO_TEXT,
-        };
-        self.depth = n + 1;
+            ..Frame::EMPTY
+        });
         self.used += 1;
         self.steps += 1;
         self.mode = inside(shape);
@@ -171,71 +126,48 @@ impl Machine {
 
     // What holds values closes: its row has its count.
     fn unnest(&mut self, rows: &mut [Row], place: usize) -> Result<(), Refusal>
-        requires fit { Fit self.old }
-        requires room { self.old.steps < 2 ^ 32 }
-        ensures { Turn 2 self.old (unnest slice_set (stack_of self.old.stack self.old.depth) place self.old.used rows.old) result self.new rows.new }
+        requires { self.old.steps < 2 ^ 32 }
+        ensures { Turn 2 self.old (unnest slice_set self.old.stack place self.old.used rows.old) result self.new rows.new }
     {
-        if self.depth == 0 {
-            return Err(Refusal::MisplacedTag(place));
-        }
-        let top = self.depth - 1;
-        let f = self.stack[top];
-        store(rows, f.row, holder_row(f));
-        self.depth = top;
-        self.mode = past(f.shape);
+        let holder = self.stack.pop().ok_or(Refusal::MisplacedTag(place))?;
+        store(rows, holder.row, holder.holder_row());
+        self.mode = past(holder.shape);
         Ok(())
     }
 
     // The run is the method's name, which the call's row will have.
     fn name(&mut self, row: Row, place: usize) -> Result<(), Refusal>
-        requires fit { Fit self.old }
-        ensures { (rs : List SomeRow) → Turn 0 self.old (named slice_set (stack_of self.old.stack self.old.depth) place row self.old.used rs) result self.new rs }
+        ensures { (rs : List SomeRow) → Turn 0 self.old (named slice_set self.old.stack place row self.old.used rs) result self.new rs }
     {
-        if self.depth == 0 {
-            return Err(Refusal::MisplacedTag(place));
-        }
-        let top = self.depth - 1;
-        let f = self.stack[top];
-        self.stack[top] = Frame {
-            shape: f.shape,
-            row: f.row,
-            count: f.count,
+        let call = self.stack.pop().ok_or(Refusal::MisplacedTag(place))?;
+        self.stack.push(Frame {
             name: row.text,
-        };
+            ..call
+        });
         self.mode = Mode::Call(CallMode::Named);
         Ok(())
     }
 
     // The response is a fault.
     fn fault(&mut self, place: usize) -> Result<(), Refusal>
-        requires fit { Fit self.old }
-        ensures { (rs : List SomeRow) → Turn 0 self.old (faulted slice_set (stack_of self.old.stack self.old.depth) place self.old.used rs) result self.new rs }
+        ensures { (rs : List SomeRow) → Turn 0 self.old (faulted slice_set self.old.stack place self.old.used rs) result self.new rs }
     {
-        if self.depth == 0 {
-            return Err(Refusal::MisplacedTag(place));
-        }
-        let top = self.depth - 1;
-        let f = self.stack[top];
-        self.stack[top] = Frame {
+        let response = self.stack.pop().ok_or(Refusal::MisplacedTag(place))?;
+        self.stack.push(Frame {
             shape: Shape::Fault,
-            row: f.row,
-            count: f.count,
-            name: f.name,
-        };
+            ..response
+        });
         self.mode = Mode::Response(ResponseMode::Fault);
         Ok(())
     }
 
     // The run's row is put behind the others.
     fn emit(&mut self, rows: &mut [Row], row: Row)
-        requires fit { Fit self.old }
-        requires room { self.old.steps < 2 ^ 32 }
+        requires { self.old.steps < 2 ^ 32 }
         ensures rows { rows.new ≡ slice_set rows.old self.old.used row }
-        ensures fit { Fit self.new }
         ensures tick { self.new.steps ≡ self.old.steps + 1 }
         ensures used { self.new.used ≡ self.old.used + 1 }
         ensures stack { self.new.stack ≡ self.old.stack }
-        ensures depth { self.new.depth ≡ self.old.depth }
     {
         store(rows, self.used, row);
         self.used += 1;
@@ -245,15 +177,11 @@ impl Machine {
     // Does what a tag at a place does that leaves the run before it alone.
     #[inline(always)]
     fn pass(&mut self, rows: &mut [Row], does: Option<Move>, place: usize) -> Result<(), Refusal>
-        requires fit { Fit self.old }
         requires room { self.old.steps + 2 < 2 ^ 32 }
         requires blank { LeavesRow does }
-        ensures { (row : SomeRow) → Turn 2 self.old (act slice_set does place row (stack_of self.old.stack self.old.depth) self.old.used rows.old) result self.new rows.new }
+        ensures { (row : SomeRow) → Turn 2 self.old (act slice_set does place row self.old.stack self.old.used rows.old) result self.new rows.new }
     {
-        let Some(does) = does else {
-            return Err(Refusal::MisplacedTag(place));
-        };
-        match does {
+        match does.ok_or(Refusal::MisplacedTag(place))? {
             Move::Enter(mode) => {
                 self.mode = mode;
                 Ok(())
@@ -278,14 +206,10 @@ impl Machine {
         place: usize,
         row: Row,
     ) -> Result<(), Refusal>
-        requires fit { Fit self.old }
         requires room { self.old.steps + 2 < 2 ^ 32 }
-        ensures { Turn 2 self.old (act slice_set does place row (stack_of self.old.stack self.old.depth) self.old.used rows.old) result self.new rows.new }
+        ensures { Turn 2 self.old (act slice_set does place row self.old.stack self.old.used rows.old) result self.new rows.new }
     {
-        let Some(does) = does else {
-            return Err(Refusal::MisplacedTag(place));
-        };
-        match does {
+        match does.ok_or(Refusal::MisplacedTag(place))? {
             Move::Emit(mode) => {
                 self.emit(rows, row);
                 self.mode = mode;
@@ -298,7 +222,7 @@ impl Machine {
             }
             Move::Name => self.name(row, place),
             Move::Enter(_) | Move::Leave | Move::Nest(_) | Move::Unnest | Move::Fault => {
-                self.pass(rows, Some(does), place)
+                self.pass(rows, does, place)
             }
         }
     }
@@ -312,14 +236,13 @@ impl Machine {
         place: usize,
         tag: Tag,
     ) -> Result<(), Refusal>
-        requires fit { Fit self.old }
         requires room { self.old.steps + 2 < 2 ^ 32 }
         requires short { at + length run.now < 2 ^ 32 }
         ensures { Turn 2 self.old (step slice_set (state self.old rows.old) at run.now place tag) result self.new rows.new }
     {
         let does = move_at(self.mode, tag);
         if must_be_blank(self.mode, tag) {
-            let _ = blank_run(at, run)?;
+            blank_run(at, run)?;
             return self.pass(rows, does, place);
         }
         let row = run_row(self.mode, tag, at, run)?;
@@ -333,29 +256,15 @@ impl Machine {
         self.used
     }
 
-    fn is_finished(&self) -> bool
-        ensures { result ≡ is_finished slice_set self.now.mode }
-    {
-        match self.mode {
-            Mode::Finished => true,
-            Mode::Start
-            | Mode::Call(_)
-            | Mode::Response(_)
-            | Mode::Value(_)
-            | Mode::Struct(_)
-            | Mode::Array(_) => false,
-        }
-    }
-
     // The end of a message of so many bytes, behind a run.
     pub(crate) fn finish(&self, at: usize, run: &[u8], len: usize) -> Result<(), Refusal>
         requires short { at + length run.now < 2 ^ 32 }
         ensures { (rs : List SomeRow) → finish slice_set (state self.now rs) at run.now len ≡ outcome result (state self.now rs) }
     {
-        if !self.is_finished() {
+        if self.mode != Mode::Finished {
             return Err(Refusal::Unfinished(len));
         }
-        let _ = blank_run(at, run)?;
+        blank_run(at, run)?;
         Ok(())
     }
 }

@@ -3,7 +3,6 @@ ghost use Rattle.std.specs.Prelude.{◌≡◌, ◌+◌, ◌^◌, ◌<◌, ◌≤
 ghost use Rattle.std.specs.List.{prefix_len};
 ghost use Rattle.texts.specs.Bytes.{within as spans};
 ghost use Rattle.reader.specs.Derivations.{DerivedIsRead, ReadIsDerived, OneMessage};
-ghost use Rattle.reader.specs.Held.{Fit};
 ghost use Rattle.reader.specs.KnownCases.{KnownCases};
 ghost use Rattle.reader.specs.Reading.{Short, ShortRun, Fed, reading, Said, rows_of, within, left_by};
 ghost use Rattle.characters.specs.References.{is_character};
@@ -13,7 +12,7 @@ use parts::reader::{Part, Reader, Token};
 use parts::tag::Tag;
 use texts::bytes::{Class, all_of, leading_of};
 use wire::refusal::Refusal;
-use wire::row::{Row, blank_rows};
+use wire::row::{Row, blank_first};
 
 // Feeds a token to the machine, with the run before it in hand, and gives the run to go on with.
 fn feed<'a>(
@@ -22,7 +21,6 @@ fn feed<'a>(
     run: Part<'a>,
     token: Token<'a>,
 ) -> Result<Part<'a>, Refusal>
-    requires fit { Fit machine.old }
     requires room { machine.old.steps + 2 < 2 ^ 32 }
     requires short { Short run }
     requires next { ShortRun token }
@@ -36,7 +34,7 @@ fn feed<'a>(
     machine.step(rows, run.place, run.bytes, place, tag)?;
     Ok(Part {
         place: 0,
-        bytes: &run.bytes[0..0],
+        bytes: &run.bytes[..0],
     })
 }
 
@@ -49,7 +47,7 @@ fn read_parts(message: &[u8], rows: &mut [Row]) -> Result<usize, Refusal>
     let mut machine = Machine::new();
     let mut run = Part {
         place: 0,
-        bytes: &message[0..0],
+        bytes: &message[..0],
     };
     while let Some(token) = reader.next()? {
         run = feed(&mut machine, rows, run, token)?;
@@ -127,12 +125,10 @@ pub fn read_rows(message: &[u8], rows: &mut [Row]) -> Result<usize, Refusal>
     ensures one { OneMessage message.now }
     ensures known { KnownCases }
 {
-    match try_rows(message, rows) {
-        Ok(used) => Ok(used),
-        Err(refusal) => {
-            let all = rows.len();
-            blank_rows(rows, all);
-            Err(refusal)
-        }
+    let read = try_rows(message, rows);
+    if read.is_err() {
+        let all = rows.len();
+        blank_first(rows, all);
     }
+    read
 }

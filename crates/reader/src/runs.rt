@@ -1,9 +1,9 @@
 // The row that a run gives, by where it stands and the tag behind it.
 ghost use Rattle.std.specs.Prelude.{◌≡◌, ℕ, ◌+◌, ◌^◌, ◌<◌, ◌≤◌, true, List, length};
-ghost use Rattle.reader.specs.Runs.{span_at, number_row, blank_run, characters_run, plain_run, words_run, call_run, value_run, struct_run, run_row};
+ghost use Rattle.reader.specs.Runs.{span_at, number_row, text_row, blank_run, characters_run, plain_run, words_run, call_run, value_run, struct_run, run_row};
 ghost use Rattle.reader.specs.Moves.{LeavesRow};
 ghost use Rattle.table.specs.Entries.{lookup, entries};
-ghost use Rattle.table.specs.declared.mode.Plain.TheVariants.{Int, Boolean, Double, Date, Base64};
+ghost use Rattle.table.specs.declared.mode.Plain.TheVariants.{Date};
 ghost use Rattle.table.specs.declared.mode.CallMode.TheVariants.{Name as MethodName};
 
 use base64_texts::check_base64;
@@ -32,6 +32,30 @@ fn span(place: usize, len: usize) -> Span
     }
 }
 
+// A text that reads as a number.
+fn number_row(kind: Kind, number: i64, scale: u8) -> Row
+    ensures { result ≡ number_row kind number scale }
+{
+    Row {
+        kind,
+        number,
+        scale,
+        ..Row::BLANK
+    }
+}
+
+// A text that stays as it is stored.
+fn text_row(kind: Kind, count: u32, text: Span) -> Row
+    ensures { result ≡ text_row kind count text }
+{
+    Row {
+        kind,
+        count,
+        text,
+        ..Row::BLANK
+    }
+}
+
 // A run that must be blank.
 pub(crate) fn blank_run(place: usize, bytes: &[u8]) -> Result<Row, Refusal>
     requires { place + length bytes.now < 2 ^ 32 }
@@ -51,93 +75,9 @@ fn characters_run(kind: Kind, count: u32, place: usize, bytes: &[u8]) -> Result<
     ensures { result ≡ characters_run kind count place bytes.now }
 {
     match count_characters(bytes) {
-        Ok(_) => Ok(Row {
-            kind,
-            count,
-            number: 0,
-            scale: 0,
-            text: span(place, bytes.len()),
-        }),
+        Ok(_) => Ok(text_row(kind, count, span(place, bytes.len()))),
         Err(BadCharacters::Reference(at)) => Err(Refusal::BadReference(place + at)),
         Err(BadCharacters::Byte) => Err(Refusal::BadReference(place)),
-    }
-}
-
-// A text that reads as a number.
-fn number_row(kind: Kind, number: i64, scale: u8) -> Row
-    ensures { result ≡ number_row kind number scale }
-{
-    Row {
-        kind,
-        count: 0,
-        number,
-        scale,
-        text: Span {
-            store: Store::Message,
-            start: 0,
-            len: 0,
-        },
-    }
-}
-
-fn int_run(place: usize, bytes: &[u8]) -> Result<Row, Refusal>
-    ensures { result ≡ plain_run Int place bytes.now }
-{
-    match read_int(bytes) {
-        Ok(number) => Ok(number_row(Kind::Int, i64::from(number), 0)),
-        Err(_) => Err(Refusal::BadText(place)),
-    }
-}
-
-fn boolean_run(place: usize, bytes: &[u8]) -> Result<Row, Refusal>
-    ensures { result ≡ plain_run Boolean place bytes.now }
-{
-    match read_boolean(bytes) {
-        Ok(true) => Ok(number_row(Kind::Boolean, 1, 0)),
-        Ok(false) => Ok(number_row(Kind::Boolean, 0, 0)),
-        Err(_) => Err(Refusal::BadText(place)),
-    }
-}
-
-fn double_run(place: usize, bytes: &[u8]) -> Result<Row, Refusal>
-    ensures { result ≡ plain_run Double place bytes.now }
-{
-    match read_double(bytes) {
-        Ok((number, scale)) => Ok(number_row(Kind::Double, number, scale)),
-        Err(_) => Err(Refusal::BadText(place)),
-    }
-}
-
-fn date_run(place: usize, bytes: &[u8]) -> Result<Row, Refusal>
-    requires { place + length bytes.now < 2 ^ 32 }
-    ensures { result ≡ plain_run Date place bytes.now }
-{
-    let blanks = leading_of::<Blank>(bytes);
-    match read_date(bytes) {
-        Ok(_) => Ok(Row {
-            kind: Kind::Date,
-            count: 0,
-            number: 0,
-            scale: 0,
-            text: span(place + blanks, 17),
-        }),
-        Err(_) => Err(Refusal::BadText(place)),
-    }
-}
-
-fn base64_run(place: usize, bytes: &[u8]) -> Result<Row, Refusal>
-    requires { place + length bytes.now < 2 ^ 32 }
-    ensures { result ≡ plain_run Base64 place bytes.now }
-{
-    match check_base64(bytes) {
-        Ok(_) => Ok(Row {
-            kind: Kind::Base64,
-            count: 0,
-            number: 0,
-            scale: 0,
-            text: span(place, bytes.len()),
-        }),
-        Err(_) => Err(Refusal::BadText(place)),
     }
 }
 
@@ -145,16 +85,17 @@ fn method_run(place: usize, bytes: &[u8]) -> Result<Row, Refusal>
     requires { place + length bytes.now < 2 ^ 32 }
     ensures { result ≡ call_run MethodName place bytes.now }
 {
-    match read_method_name(bytes) {
-        Ok(_) => Ok(Row {
-            kind: Kind::Call,
-            count: 0,
-            number: 0,
-            scale: 0,
-            text: span(place, bytes.len()),
-        }),
-        Err(_) => Err(Refusal::BadText(place)),
-    }
+    let name = read_method_name(bytes).map_err(|_| Refusal::BadText(place))?;
+    Ok(text_row(Kind::Call, 0, span(place, name.len())))
+}
+
+fn date_run(place: usize, bytes: &[u8]) -> Result<Row, Refusal>
+    requires { place + length bytes.now < 2 ^ 32 }
+    ensures { result ≡ plain_run Date place bytes.now }
+{
+    let blanks = leading_of::<Blank>(bytes);
+    read_date(bytes).map_err(|_| Refusal::BadText(place))?;
+    Ok(text_row(Kind::Date, 0, span(place + blanks, 17)))
 }
 
 // The text of a plain value.
@@ -162,14 +103,22 @@ fn plain_run(plain: Plain, place: usize, bytes: &[u8]) -> Result<Row, Refusal>
     requires { place + length bytes.now < 2 ^ 32 }
     ensures { result ≡ plain_run plain place bytes.now }
 {
+    let refused = |_| Refusal::BadText(place);
     match plain {
-        Plain::Int => int_run(place, bytes),
-        Plain::I4 => int_run(place, bytes),
-        Plain::Boolean => boolean_run(place, bytes),
+        Plain::Int | Plain::I4 => read_int(bytes)
+            .map(|number| number_row(Kind::Int, i64::from(number), 0))
+            .map_err(refused),
+        Plain::Boolean => read_boolean(bytes)
+            .map(|value| number_row(Kind::Boolean, i64::from(value), 0))
+            .map_err(refused),
         Plain::String => characters_run(Kind::String, 0, place, bytes),
-        Plain::Double => double_run(place, bytes),
+        Plain::Double => read_double(bytes)
+            .map(|(number, scale)| number_row(Kind::Double, number, scale))
+            .map_err(refused),
         Plain::Date => date_run(place, bytes),
-        Plain::Base64 => base64_run(place, bytes),
+        Plain::Base64 => check_base64(bytes)
+            .map(|_| text_row(Kind::Base64, 0, span(place, bytes.len())))
+            .map_err(refused),
     }
 }
 

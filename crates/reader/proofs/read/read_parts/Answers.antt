@@ -13,7 +13,6 @@ loop-token-init c =
     let n = begun.0 in
     let m = c.new-machine.ensures in
     let count = ap part_count begun.3 in (
-      m.fit,
       begun.4,
       begun.2,
       omega arith,

@@ -2,13 +2,13 @@ use Rattle.std.proofs.Common.{◌≡◌, ◌+◌, ◌*◌, ◌≤◌, length, se
 use Rattle.parts.specs.Cutting.{part_count}
 use Rattle.parts.specs.Readers.{parts_left, Inside}
 use Rattle.reader.specs.Steps.{judge}
-use Rattle.reader.specs.Held.{state, Fit}
+use Rattle.reader.specs.Held.{state}
 use Rattle.reader.specs.Reading.{reading, Short}
 use Rattle.reader.proofs.read.read_parts.Given as goal
 
 abbrev pub invariant-loop-token : goal.invariant-loop-token
 invariant-loop-token l =
-    Fit l.machine × Inside l.reader × (l.reader.message.now ≡ l.message) × Short l.run
+    Inside l.reader × (l.reader.message.now ≡ l.message) × Short l.run
     × (l.machine.steps + 2 * part_count (parts_left l.reader) ≤ 600000)
     × (judge set (state l.machine l.rows) l.run.place l.run.bytes.now (parts_left l.reader) (length l.message) ≡ reading set l.message l.initial.rows)
 

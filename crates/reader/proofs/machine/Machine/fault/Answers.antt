@@ -1,27 +1,9 @@
-use Rattle.std.proofs.Common.{◌-◌, ◌<◌, length, get_or, set, Ok, sym, ap, ◌∙◌, arith, rules}
-use Rattle.table.specs.declared.mode.Mode.TheVariants.{Response}
-use Rattle.table.specs.declared.mode.ResponseMode.TheVariants as response
-use Rattle.table.specs.declared.mode.Shape.TheVariants as shape
-use Rattle.reader.specs.Steps.{st, frame, faulted}
-use Rattle.reader.specs.Held.{no_frame}
-use Rattle.reader.proofs.Stack.{stack_top, stack_set_top, counts_keep}
+use Rattle.std.proofs.Common.{arith}
+use Rattle.reader.proofs.Frames.{was_open, top_counted, counted_again}
 use Rattle.reader.proofs.machine.Machine.fault.Goals as goal
 
-pub returns : goal.returns
-returns c = λ rs.
-    let d = c.args.self.now.depth in
-    let xs = c.args.self.now.stack in
-    let top = get_or xs (d - 1) no_frame in
-    let len : d - 1 < length xs = search rules in
-    let new = frame shape.Fault top.row top.count top.name in
-    record {
-      fit = record {
-        deep = c.requires.fit.deep;
-        rows = c.requires.fit.rows;
-        counts = counts_keep xs (d - 1) _ new c.requires.fit.counts (c.requires.fit.counts (d - 1) (omega (arith, c.requires.fit.deep))) len;
-      };
-      tick = omega arith;
-      does =
-          ap (λ fs. faulted set fs c.args.place c.args.self.now.used rs) (stack_top xs d c.if-self-eq0.false)
-          ∙ ap (λ fs. Ok (st (Response response.Fault) fs c.args.self.now.used rs)) (sym (stack_set_top xs d new c.if-self-eq0.false len));
-    }
+pub invariant_of-self-2 : goal.invariant_of-self-2
+invariant_of-self-2 c =
+    let old = c.args.self.now in
+    let was = was_open old.stack c.pop.new.self _ c.in_ok-response.response c.in_ok-response.ensures.ok_part c.pop.ensures.top in
+    record { rows = old.rows; counts = counted_again _ _ _ _ _ _ _ (omega arith) was c.push.ensures (top_counted _ _ _ _ was old.counts) old.counts }

@@ -1,18 +1,9 @@
-use Rattle.std.proofs.Common.{◌-◌, ◌<◌, length, refl, arith, rules}
-use Rattle.reader.proofs.Stack.{counts_set, leave_top}
+use Rattle.std.proofs.Common.{arith}
+use Rattle.reader.proofs.Frames.{top_counted, counted_again}
 use Rattle.reader.proofs.machine.Machine.leave.Goals as goal
 
-pub returns : goal.returns
-returns c =
-    let d = c.args.self.now.depth in
-    let xs = c.args.self.now.stack in
-    let len : d - 1 < length xs = search rules in
-    record {
-      fit = record {
-        deep = c.requires.fit.deep;
-        rows = omega arith;
-        counts = counts_set _ _ _ _ c.requires.fit.counts (omega (arith, c.requires.fit.counts (d - 1) (omega arith))) len;
-      };
-      tick = refl;
-      does = λ rs. let k = leave_top xs d c.args.self.now.used rs c.if-self-eq0.false len in let a = c.after-self.ensures in cc;
-    }
+pub invariant_of-self-2 : goal.invariant_of-self-2
+invariant_of-self-2 c =
+    let old = c.args.self.now in
+    let was = c.in-Some.ensures.top in
+    record { rows = omega (arith, old.rows); counts = counted_again _ _ _ _ _ _ _ (omega arith) was c.push.ensures (omega (arith, top_counted _ _ _ _ was old.counts)) old.counts }
