@@ -14,6 +14,7 @@ use Rattle.parts.specs.Declarations.{declaration_len}
 use Rattle.parts.specs.Readers.{piece_of}
 use Rattle.table.specs.declared.mode.Mode.TheVariants.{Start}
 use Rattle.reader.specs.declared.machine.Machine.{Machine}
+use Rattle.reader.specs.Runs.{Short}
 use Rattle.reader.specs.Steps.{St, st, judge, put_at}
 use Rattle.reader.specs.Held.{state}
 
@@ -35,10 +36,7 @@ abbrev pub goes_on : Result Part Refusal → St → Parts → ℕ → Result St 
 goes_on (Ok part) s ps len = judge slice_set s part.place part.bytes.now ps len
 goes_on (Err e) s ps len = Err e
 
--- places of a run that fit a row
-abbrev pub Short : Part → Type 0
-Short part = part.place + length part.bytes.now < 2 ^ 32
-
+-- and so where the token is a run, or one comes
 abbrev pub ShortRun : Token → Type 0
 ShortRun (token.Open name part) = Unit {0}
 ShortRun (token.Close name part) = Unit {0}

@@ -3,11 +3,13 @@ ghost use Rattle.std.specs.Prelude.{◌≡◌, ℕ, ◌+◌, ◌^◌, ◌<◌, �
 ghost use Rattle.wire.specs.declared.row.Row.{Row as SomeRow};
 ghost use Rattle.table.specs.declared.mode.Mode.TheVariants.{Start};
 ghost use Rattle.reader.specs.Steps.{st, inside_of, after_of, past_of, leave, nest, unnest, named, faulted, act, step, finish};
+ghost use Rattle.reader.specs.Runs.{Short};
 ghost use Rattle.reader.specs.Moves.{LeavesRow};
 
 use crate::frame::Frame;
 use crate::runs::{blank_run, must_be_blank, run_row};
 use crate::stack::Stack;
+use parts::reader::Part;
 use parts::tag::Tag;
 use table::mode::{ArrayMode, CallMode, Mode, Move, ResponseMode, Shape, StructMode, ValueMode};
 use table::moves::move_at;
@@ -231,21 +233,20 @@ impl Machine {
     pub(crate) fn step(
         &mut self,
         rows: &mut [Row],
-        at: usize,
-        run: &[u8],
+        run: Part<'_>,
         place: usize,
         tag: Tag,
     ) -> Result<(), Refusal>
         requires room { self.old.steps + 2 < 2 ^ 32 }
-        requires short { at + length run.now < 2 ^ 32 }
-        ensures { Turn 2 self.old (step slice_set (state self.old rows.old) at run.now place tag) result self.new rows.new }
+        requires short { Short run }
+        ensures { Turn 2 self.old (step slice_set (state self.old rows.old) run.entry.place run.entry.bytes.now place tag) result self.new rows.new }
     {
         let does = move_at(self.mode, tag);
         if must_be_blank(self.mode, tag) {
-            blank_run(at, run)?;
+            blank_run(run)?;
             return self.pass(rows, does, place);
         }
-        let row = run_row(self.mode, tag, at, run)?;
+        let row = run_row(self.mode, tag, run)?;
         self.act(rows, does, place, row)
     }
 
@@ -257,14 +258,14 @@ impl Machine {
     }
 
     // The end of a message of so many bytes, behind a run.
-    pub(crate) fn finish(&self, at: usize, run: &[u8], len: usize) -> Result<(), Refusal>
-        requires short { at + length run.now < 2 ^ 32 }
-        ensures { (rs : List SomeRow) → finish slice_set (state self.now rs) at run.now len ≡ outcome result (state self.now rs) }
+    pub(crate) fn finish(&self, run: Part<'_>, len: usize) -> Result<(), Refusal>
+        requires { Short run }
+        ensures { (rs : List SomeRow) → finish slice_set (state self.now rs) run.entry.place run.entry.bytes.now len ≡ outcome result (state self.now rs) }
     {
         if self.mode != Mode::Finished {
             return Err(Refusal::Unfinished(len));
         }
-        blank_run(at, run)?;
+        blank_run(run)?;
         Ok(())
     }
 }

@@ -4,7 +4,8 @@ ghost use Rattle.std.specs.List.{prefix_len};
 ghost use Rattle.texts.specs.Bytes.{within as spans};
 ghost use Rattle.reader.specs.Derivations.{DerivedIsRead, ReadIsDerived, OneMessage};
 ghost use Rattle.reader.specs.KnownCases.{KnownCases};
-ghost use Rattle.reader.specs.Reading.{Short, ShortRun, Fed, reading, Said, rows_of, within, left_by};
+ghost use Rattle.reader.specs.Runs.{Short};
+ghost use Rattle.reader.specs.Reading.{ShortRun, Fed, reading, Said, rows_of, within, left_by};
 ghost use Rattle.characters.specs.References.{is_character};
 
 use crate::machine::Machine;
@@ -31,7 +32,7 @@ fn feed<'a>(
         Token::Open(name, part) => (part.place, Tag::Open(name)),
         Token::Close(name, part) => (part.place, Tag::Close(name)),
     };
-    machine.step(rows, run.place, run.bytes, place, tag)?;
+    machine.step(rows, run, place, tag)?;
     Ok(Part {
         place: 0,
         bytes: &run.bytes[..0],
@@ -52,7 +53,7 @@ fn read_parts(message: &[u8], rows: &mut [Row]) -> Result<usize, Refusal>
     while let Some(token) = reader.next()? {
         run = feed(&mut machine, rows, run, token)?;
     }
-    machine.finish(run.place, run.bytes, message.len())?;
+    machine.finish(run, message.len())?;
     Ok(machine.used())
 }
 

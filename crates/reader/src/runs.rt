@@ -1,6 +1,6 @@
 // The row that a run gives, by where it stands and the tag behind it.
 ghost use Rattle.std.specs.Prelude.{◌≡◌, ℕ, ◌+◌, ◌^◌, ◌<◌, ◌≤◌, true, List, length};
-ghost use Rattle.reader.specs.Runs.{span_at, number_row, text_row, blank_run, characters_run, plain_run, words_run, call_run, value_run, struct_run, run_row};
+ghost use Rattle.reader.specs.Runs.{Short, span_at, number_row, text_row, blank_run, characters_run, plain_run, words_run, call_run, value_run, struct_run, run_row};
 ghost use Rattle.reader.specs.Moves.{LeavesRow};
 ghost use Rattle.table.specs.Entries.{lookup, entries};
 ghost use Rattle.table.specs.declared.mode.Plain.TheVariants.{Date};
@@ -11,6 +11,7 @@ use characters::{BadCharacters, count_characters};
 use dates::text::read_date;
 use numbers::doubles::read_double;
 use numbers::ints::read_int;
+use parts::reader::Part;
 use parts::tag::Tag;
 use table::mode::{CallMode, Mode, Plain, StructMode, ValueMode};
 use texts::booleans::read_boolean;
@@ -30,6 +31,14 @@ fn span(place: usize, len: usize) -> Span
         start: place as u32,
         len: len as u32,
     }
+}
+
+// All of a run.
+fn run_span(run: Part<'_>) -> Span
+    requires { Short run }
+    ensures { result ≡ span_at run.entry.place (length run.entry.bytes.now) }
+{
+    span(run.place, run.bytes.len())
 }
 
 // A text that reads as a number.
@@ -57,83 +66,84 @@ fn text_row(kind: Kind, count: u32, text: Span) -> Row
 }
 
 // A run that must be blank.
-pub(crate) fn blank_run(place: usize, bytes: &[u8]) -> Result<Row, Refusal>
-    requires { place + length bytes.now < 2 ^ 32 }
-    ensures { result ≡ blank_run place bytes.now }
+pub(crate) fn blank_run(run: Part<'_>) -> Result<Row, Refusal>
+    requires { Short run }
+    ensures { result ≡ blank_run run.entry.place run.entry.bytes.now }
 {
-    let blanks = leading_of::<Blank>(bytes);
-    if blanks == bytes.len() {
+    let blanks = leading_of::<Blank>(run.bytes);
+    if blanks == run.bytes.len() {
         Ok(Row::BLANK)
     } else {
-        Err(Refusal::StrayText(place + blanks))
+        Err(Refusal::StrayText(run.place + blanks))
     }
 }
 
 // A string or a member name.
-fn characters_run(kind: Kind, count: u32, place: usize, bytes: &[u8]) -> Result<Row, Refusal>
-    requires { place + length bytes.now < 2 ^ 32 }
-    ensures { result ≡ characters_run kind count place bytes.now }
+fn characters_run(kind: Kind, count: u32, run: Part<'_>) -> Result<Row, Refusal>
+    requires { Short run }
+    ensures { result ≡ characters_run kind count run.entry.place run.entry.bytes.now }
 {
-    match count_characters(bytes) {
-        Ok(_) => Ok(text_row(kind, count, span(place, bytes.len()))),
-        Err(BadCharacters::Reference(at)) => Err(Refusal::BadReference(place + at)),
-        Err(BadCharacters::Byte) => Err(Refusal::BadReference(place)),
+    match count_characters(run.bytes) {
+        Ok(_) => Ok(text_row(kind, count, run_span(run))),
+        Err(BadCharacters::Reference(at)) => Err(Refusal::BadReference(run.place + at)),
+        Err(BadCharacters::Byte) => Err(Refusal::BadReference(run.place)),
     }
 }
 
-fn method_run(place: usize, bytes: &[u8]) -> Result<Row, Refusal>
-    requires { place + length bytes.now < 2 ^ 32 }
-    ensures { result ≡ call_run MethodName place bytes.now }
+fn method_run(run: Part<'_>) -> Result<Row, Refusal>
+    requires { Short run }
+    ensures { result ≡ call_run MethodName run.entry.place run.entry.bytes.now }
 {
-    let name = read_method_name(bytes).map_err(|_| Refusal::BadText(place))?;
-    Ok(text_row(Kind::Call, 0, span(place, name.len())))
+    read_method_name(run.bytes).map_err(|_| Refusal::BadText(run.place))?;
+    Ok(text_row(Kind::Call, 0, run_span(run)))
 }
 
-fn date_run(place: usize, bytes: &[u8]) -> Result<Row, Refusal>
-    requires { place + length bytes.now < 2 ^ 32 }
-    ensures { result ≡ plain_run Date place bytes.now }
+fn date_run(run: Part<'_>) -> Result<Row, Refusal>
+    requires { Short run }
+    ensures { result ≡ plain_run Date run.entry.place run.entry.bytes.now }
 {
-    let blanks = leading_of::<Blank>(bytes);
-    read_date(bytes).map_err(|_| Refusal::BadText(place))?;
-    Ok(text_row(Kind::Date, 0, span(place + blanks, 17)))
+    let blanks = leading_of::<Blank>(run.bytes);
+    read_date(run.bytes).map_err(|_| Refusal::BadText(run.place))?;
+    Ok(text_row(Kind::Date, 0, span(run.place + blanks, 17)))
 }
 
 // The text of a plain value.
-fn plain_run(plain: Plain, place: usize, bytes: &[u8]) -> Result<Row, Refusal>
-    requires { place + length bytes.now < 2 ^ 32 }
-    ensures { result ≡ plain_run plain place bytes.now }
+fn plain_run(plain: Plain, run: Part<'_>) -> Result<Row, Refusal>
+    requires { Short run }
+    ensures { result ≡ plain_run plain run.entry.place run.entry.bytes.now }
 {
-    let refused = |_| Refusal::BadText(place);
+    let refused = |_| Refusal::BadText(run.place);
     match plain {
-        Plain::Int | Plain::I4 => read_int(bytes)
+        Plain::Int | Plain::I4 => read_int(run.bytes)
             .map(|number| number_row(Kind::Int, i64::from(number), 0))
             .map_err(refused),
-        Plain::Boolean => read_boolean(bytes)
+        Plain::Boolean => read_boolean(run.bytes)
             .map(|value| number_row(Kind::Boolean, i64::from(value), 0))
             .map_err(refused),
-        Plain::String => characters_run(Kind::String, 0, place, bytes),
-        Plain::Double => read_double(bytes)
+        Plain::String => characters_run(Kind::String, 0, run),
+        Plain::Double => read_double(run.bytes)
             .map(|(number, scale)| number_row(Kind::Double, number, scale))
             .map_err(refused),
-        Plain::Date => date_run(place, bytes),
-        Plain::Base64 => check_base64(bytes)
-            .map(|_| text_row(Kind::Base64, 0, span(place, bytes.len())))
-            .map_err(refused),
+        Plain::Date => date_run(run),
+        Plain::Base64 => {
+            let row = text_row(Kind::Base64, 0, run_span(run));
+            check_base64(run.bytes).map(|_| row).map_err(refused)
+        }
     }
 }
 
 // A run in a value: a string before a close tag, else blank.
-fn value_run(mode: ValueMode, tag: Tag, place: usize, bytes: &[u8]) -> Result<Row, Refusal>
-    requires { place + length bytes.now < 2 ^ 32 }
-    ensures { result ≡ value_run mode tag place bytes.now }
+fn value_run(mode: ValueMode, tag: Tag, run: Part<'_>) -> Result<Row, Refusal>
+    requires { Short run }
+    ensures { result ≡ value_run mode tag run.entry.place run.entry.bytes.now }
 {
     match mode {
         ValueMode::Begun => match tag {
-            Tag::Open(_) => blank_run(place, bytes),
-            Tag::Close(_) => characters_run(Kind::String, 0, place, bytes),
+            Tag::Open(_) => blank_run(run),
+            Tag::Close(_) => characters_run(Kind::String, 0, run),
         },
-        ValueMode::Text(plain) => plain_run(plain, place, bytes),
-        ValueMode::Typed => blank_run(place, bytes),
+        ValueMode::Text(plain) => plain_run(plain, run),
+        ValueMode::Typed => blank_run(run),
     }
 }
 
@@ -160,19 +170,19 @@ pub(crate) fn must_be_blank(mode: Mode, tag: Tag) -> bool
 }
 
 // The row that a run gives, by where it stands and the tag behind it.
-pub(crate) fn run_row(mode: Mode, tag: Tag, place: usize, bytes: &[u8]) -> Result<Row, Refusal>
-    requires { place + length bytes.now < 2 ^ 32 }
-    ensures { result ≡ run_row mode tag place bytes.now }
+pub(crate) fn run_row(mode: Mode, tag: Tag, run: Part<'_>) -> Result<Row, Refusal>
+    requires { Short run }
+    ensures { result ≡ run_row mode tag run.entry.place run.entry.bytes.now }
 {
     match mode {
-        Mode::Value(mode) => value_run(mode, tag, place, bytes),
-        Mode::Call(CallMode::Name) => method_run(place, bytes),
-        Mode::Struct(StructMode::Name) => characters_run(Kind::Member, 1, place, bytes),
+        Mode::Value(mode) => value_run(mode, tag, run),
+        Mode::Call(CallMode::Name) => method_run(run),
+        Mode::Struct(StructMode::Name) => characters_run(Kind::Member, 1, run),
         Mode::Start
         | Mode::Call(_)
         | Mode::Response(_)
         | Mode::Struct(_)
         | Mode::Array(_)
-        | Mode::Finished => blank_run(place, bytes),
+        | Mode::Finished => blank_run(run),
     }
 }

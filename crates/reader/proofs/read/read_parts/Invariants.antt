@@ -3,7 +3,8 @@ use Rattle.parts.specs.Cutting.{part_count}
 use Rattle.parts.specs.Readers.{parts_left, Inside}
 use Rattle.reader.specs.Steps.{judge}
 use Rattle.reader.specs.Held.{state}
-use Rattle.reader.specs.Reading.{reading, Short}
+use Rattle.reader.specs.Runs.{Short}
+use Rattle.reader.specs.Reading.{reading}
 use Rattle.reader.proofs.read.read_parts.Given as goal
 
 abbrev pub invariant-loop-token : goal.invariant-loop-token

@@ -9,7 +9,7 @@ returns-then-must_be_blank c =
     let m = c.args.self.now in
     let rs = c.args.rows.now in
     let blank = c.in_ok-blank_run.field-0 in
-    let row : run_row m.mode c.args.tag c.args.at c.args.run.now ≡ Ok blank = c.must_be_blank.ensures.blank c.if-must_be_blank.true c.args.at c.args.run.now ∙ sym c.in_ok-blank_run.ensures in
+    let row : run_row m.mode c.args.tag c.args.run.place c.args.run.bytes.now ≡ Ok blank = c.must_be_blank.ensures.blank c.if-must_be_blank.true c.args.run.place c.args.run.bytes.now ∙ sym c.in_ok-blank_run.ensures in
     let h = c.pass.ensures blank in
     record {
       tick = h.tick;
