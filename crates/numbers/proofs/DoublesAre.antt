@@ -4,12 +4,12 @@ use native.Mathlib.Nat.{pow-le-pow_right}
 use Rattle.std.specs.List.{prefix_len, suffix_len}
 use Rattle.std.proofs.ByRecursion.{All-append, All-take, All-drop}
 use Rattle.std.proofs.lemmas.List.{get_or-reverse, length-reverse, take_all, take_more}
-use Rattle.std.proofs.lemmas.List.Sums.{suffix_len-le-length}
+use Rattle.std.proofs.lemmas.List.Sums.{suffix_len-le-length, prefix_len_stops}
 use Rattle.std.proofs.lemmas.Bool.{le-leb, leb-true, eq-eqb, eqb-true, and_from, and_parts, or_left, or_right, or_cases, cond-true, cond-false, cases_Bool, cases_lt}
 use Rattle.std.proofs.lemmas.Bool.Decides.{nat_tests}
 use Rattle.texts.specs.Bytes.{unblanked}
 use Rattle.texts.specs.Digits.{is_digit, worth, worth_after}
-use Rattle.texts.proofs.Fronts.{all_leading, leading_stop}
+use Rattle.texts.proofs.Fronts.{all_leading}
 use Rattle.texts.proofs.Numerals.{digit_at, worth_after-append}
 use Rattle.numbers.specs.Signs.{is_minus, after_sign, signed}
 use Rattle.numbers.specs.Ints.{is_numeral}
@@ -45,7 +45,7 @@ last_counts ws fs h some =
     let lt : e < length (reverse fs) = omega (arith, length-reverse fs, cut, some) in
     let x = get_or fs (length fs - 1 - e) 0 in
     let place : length fs - 1 - e ≡ s - 1 = omega arith in
-    let stop : is_zero x ≡ false = sym (ap is_zero (get_or-reverse fs e 0 (omega (arith, length-reverse fs)))) ∙ leading_stop is_zero (reverse fs) lt in
+    let stop : is_zero x ≡ false = sym (ap is_zero (get_or-reverse fs e 0 (omega (arith, length-reverse fs)))) ∙ prefix_len_stops is_zero (reverse fs) 0 lt in
     let digit = digit_at fs (length fs - 1 - e) h (omega arith) in
     let big : 49 ≤ x = grind (arith, nat_tests) in
     let back : s - 1 + 1 ≡ s = omega arith in

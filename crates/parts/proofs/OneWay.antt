@@ -2,8 +2,9 @@
 use Rattle.std.proofs.Common.{◌≡◌, ℕ, zero, suc, ◌+◌, ◌≤◌, Bool, true, false, not, eqb, List, [], ◌∷◌, ◌++◌, length, get_or, take, drop, Some, None, codes, Option, sym, refl, ap, ◌∙◌, subst, ⊎_elim, arith}
 use Rattle.std.specs.List.{prefix_len}
 use Rattle.std.proofs.lemmas.List.{take-append-drop, length-append, length-drop, take_all, drop_all, take_at, drop_at, drop_more}
+use Rattle.std.proofs.lemmas.List.Sums.{prefix_len_stops}
 use Rattle.std.proofs.lemmas.Bool.{cases_Bool, cases_lt, eqb-true}
-use Rattle.texts.proofs.Fronts.{leading_all, leading_stops, all_leading, leading_stop}
+use Rattle.texts.proofs.Fronts.{leading_all, leading_stops, all_leading}
 use Rattle.parts.specs.declared.tag.Tag.{Tag}
 use Rattle.parts.specs.declared.tag.Tag.TheVariants.{Open, Close}
 use Rattle.parts.specs.declared.tag.Spelling.{Spelling}
@@ -103,7 +104,7 @@ cut_within (suc n) p bs h = ⊎_elim
     let k = prefix_len in_run bs in
     let whole : bs ≡ run_at bs ++ (60 ∷ drop (k + 1) bs) =
     sym (take-append-drop k bs)
-    ∙ ap (λ l. run_at bs ++ l) (drop_more bs k 0 stops ∙ ap (λ b. b ∷ drop (k + 1) bs) (less (get_or bs k 0) (leading_stop in_run bs stops))) in
+    ∙ ap (λ l. run_at bs ++ l) (drop_more bs k 0 stops ∙ ap (λ b. b ∷ drop (k + 1) bs) (less (get_or bs k 0) (prefix_len_stops in_run bs 0 stops))) in
     subst (λ l. Cuts p l (parts_from p l)) (sym whole)
     (cut_behind n (cut_within n) p (run_at bs) (drop (k + 1) bs) (all_leading in_run bs) (omega (arith, length-drop (k + 1) bs))))
     (λ all.

@@ -1,5 +1,5 @@
 -- How far a class of bytes reaches from either end.
-use Rattle.std.proofs.Common.{◌≡◌, ℕ, suc, ◌+◌, ◌<◌, Bool, true, false, List, [], ◌∷◌, ◌++◌, length, get_or, take, refl, ap, ◌∙◌, ⊎_elim, arith}
+use Rattle.std.proofs.Common.{◌≡◌, ℕ, suc, ◌+◌, Bool, true, false, List, [], ◌∷◌, ◌++◌, length, get_or, take, refl, ap, ◌∙◌, ⊎_elim, arith}
 use Rattle.std.specs.List.{prefix_len, suffix_len, AllByRecursion}
 use Rattle.std.proofs.lemmas.List.{reverse-append}
 use Rattle.std.proofs.lemmas.Bool.{cases_Bool, cond-true, cond-false}
@@ -29,14 +29,4 @@ all_leading p [] = tt
 all_leading p (x ∷ xs) = ⊎_elim
     (λ yes. rw (cond-true (p x) (1 + prefix_len p xs) 0 yes) (let more : 1 + prefix_len p xs ≡ suc (prefix_len p xs) = omega arith in rw more (yes, all_leading p xs)))
     (λ other. rw (cond-false (p x) (1 + prefix_len p xs) 0 other) tt)
-    (cases_Bool (p x))
-
--- what stands behind the leading elements is not of the class
-pub leading_stop : (p : ℕ → Bool) (xs : List ℕ) → prefix_len p xs < length xs → p (get_or xs (prefix_len p xs) 0) ≡ false
-leading_stop p [] h = absurd (omega arith)
-leading_stop p (x ∷ xs) h = ⊎_elim
-    (λ yes.
-    let at : prefix_len p (x ∷ xs) ≡ suc (prefix_len p xs) = cond-true (p x) (1 + prefix_len p xs) 0 yes ∙ omega arith in
-    ap (λ k. p (get_or (x ∷ xs) k 0)) at ∙ leading_stop p xs (omega (arith, at)))
-    (λ other. ap (λ k. p (get_or (x ∷ xs) k 0)) (cond-false (p x) (1 + prefix_len p xs) 0 other) ∙ other)
     (cases_Bool (p x))

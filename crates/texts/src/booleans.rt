@@ -12,13 +12,9 @@ use crate::pages::write_text;
 pub fn read_boolean(text: &[u8]) -> Result<bool, Malformed>
     ensures { result_ok result ≡ boolean_of text.now }
 {
-    let digits = unblanked(text);
-    if digits.len() != 1 {
-        return Err(Malformed);
-    }
-    match digits[0] {
-        b'0' => Ok(false),
-        b'1' => Ok(true),
+    match unblanked(text) {
+        [b'0'] => Ok(false),
+        [b'1'] => Ok(true),
         _ => Err(Malformed),
     }
 }

@@ -30,7 +30,7 @@ impl Class for Digit {
     ghost member = { is_digit };
 
     fn has(byte: u8) -> bool {
-        matches!(byte, b'0'..=b'9')
+        byte.is_ascii_digit()
     }
 }
 
@@ -39,22 +39,14 @@ pub fn leading_of<C: Class>(bytes: &[u8]) -> usize
     ensures value { result ≡ prefix_len C.Class.member bytes.now }
     ensures bound { result ≤ length bytes.now }
 {
-    let mut n = 0;
-    while n < bytes.len() && C::has(bytes[n]) {
-        n += 1;
-    }
-    n
+    bytes.iter().take_while(|b| C::has(**b)).count()
 }
 
 // Whether all bytes are of the class. It looks at every byte, so that many are looked at together.
 pub fn all_of<C: Class>(bytes: &[u8]) -> bool
     ensures { result ≡ (prefix_len C.Class.member bytes.now == length bytes.now) }
 {
-    let mut all = true;
-    for b in bytes {
-        all &= C::has(*b);
-    }
-    all
+    bytes.iter().fold(true, |all, b| all & C::has(*b))
 }
 
 // How many bytes at the end are of the class.
@@ -62,17 +54,13 @@ pub fn trailing_of<C: Class>(bytes: &[u8]) -> usize
     ensures value { result ≡ suffix_len C.Class.member bytes.now }
     ensures bound { result ≤ length bytes.now }
 {
-    let mut n = bytes.len();
-    while n > 0 && C::has(bytes[n - 1]) {
-        n -= 1;
-    }
-    bytes.len() - n
+    bytes.iter().rev().take_while(|b| C::has(**b)).count()
 }
 
 // The text without the blanks round it.
 pub fn unblanked(text: &[u8]) -> &[u8]
     ensures { result.now ≡ withoutBlanks text.now }
 {
-    let rest = &text[leading_of::<Blank>(text)..text.len()];
-    &rest[0..rest.len() - trailing_of::<Blank>(rest)]
+    let rest = &text[leading_of::<Blank>(text)..];
+    &rest[..rest.len() - trailing_of::<Blank>(rest)]
 }

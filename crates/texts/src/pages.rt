@@ -10,6 +10,6 @@ pub fn write_text(text: &[u8], page: &mut [u8]) -> Option<usize>
     if len > page.len() {
         return None;
     }
-    page[0..len].copy_from_slice(text);
+    page[..len].copy_from_slice(text);
     Some(len)
 }

@@ -1,25 +1,26 @@
-use Rattle.std.proofs.Common.{◌+◌, ◌/◌, ◌%◌, ◌^◌, ◌<◌, length, decimal, ap, arith}
-use Rattle.std.proofs.lemmas.Fmt.{decimal_step, decimal_digit, decimal_nonempty, length-decimal-le}
+use Rattle.std.proofs.Common.{rules, ◌≡◌, ℕ, ◌+◌, ◌%◌, ◌∷◌, ◌++◌, [], suc, ⊎_elim, ◌*◌, ◌^◌, ◌<◌, ◌≤◌, length, decimal, arith}
+use Rattle.std.proofs.lemmas.Fmt.{decimal_digit, decimal_by_steps, length-decimal-le}
+use Rattle.std.proofs.lemmas.Bool.{cases_lt}
 use Rattle.std.proofs.lemmas.List.{length_push}
+use Rattle.std.proofs.Math.Nat.{pow-suc, pow-succ', pow-le-pow_right}
 use Rattle.texts.proofs.digits.digit_count.Goals as goal
 
-pub loop-rest-init : goal.loop-rest-init
-loop-rest-init c =
-    let small : c.args.n < 2 ^ 64 = omega arith in
-    (omega arith, small, length-decimal-le 20 c.args.n (omega arith) (omega arith) small)
+-- a number is below the power of ten that its digits count
+below_power : (n : ℕ) → n < 2 ^ 64 → n < 10 ^ length (decimal n)
+below_power = decimal_by_steps (λ n ds. n < 10 ^ length ds)
+    (λ n small. small)
+    (λ n ds big h.
+    let longer : length (ds ++ (48 + n % 10) ∷ []) ≡ suc (length ds) = omega (arith, length_push ds (48 + n % 10)) in
+    rw longer (omega (arith, pow-suc 10 (length ds), h)))
 
-pub loop-rest-preserved : goal.loop-rest-preserved
-loop-rest-preserved c =
-    let m = c.loop-rest.rest in
-    let inv = c.loop-rest.invariant in
-    let step = ap length (decimal_step m (omega arith) inv.1) in
-    let more = length_push (decimal (m / 10)) (48 + m % 10) in
-    (omega arith, omega arith, inv.2)
+count_is : (n k : ℕ) → n < 2 ^ 64 → 10 ^ k ≤ n → n < 10 * 10 ^ k → length (decimal n) ≡ k + 1
+count_is n k small low high =
+    let power : 10 ^ suc k ≡ 10 * 10 ^ k = pow-succ' 10 k in
+    let most : length (decimal n) ≤ suc k = length-decimal-le (suc k) n (omega arith) (omega (arith, power)) small in
+    ⊎_elim
+    (λ more. omega arith)
+    (λ less. absurd (omega (arith, pow-le-pow_right {n = 10} (omega arith) less, below_power n small)))
+    (cases_lt k (length (decimal n)))
 
-pub overflow_add-count : goal.overflow_add-count
-overflow_add-count c = omega (arith, decimal_nonempty c.loop-rest.rest c.loop-rest.invariant.1)
-
-pub returns : goal.returns
-returns c =
-    let one = ap length (decimal_digit c.loop-rest.rest (omega arith)) in
-    record { value = omega arith; bound = omega arith }
+pub returns-clause-value : goal.returns-clause-value
+returns-clause-value c = search (rules, count_is, decimal_digit)
