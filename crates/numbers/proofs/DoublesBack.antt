@@ -1,8 +1,9 @@
 -- The spelling of a double: how long it is, and that it reads as that double.
-use Rattle.std.proofs.Common.{◌≡◌, ℕ, zero, suc, ◌+◌, ◌-◌, ◌*◌, ◌/◌, ◌%◌, ◌^◌, ◌<◌, ◌≤◌, max, Bool, true, false, cond, ◌&&◌, ◌||◌, eqb, leb, ◌⊎◌, List, [], ◌∷◌, ◌++◌, length, take, drop, set, ℤ, pos, negsuc, nat_abs, Some, None, decimal, Option, sym, refl, ap, ◌∙◌, subst, inl, inr, ⊎_elim, append_assoc, pow-suc, div-le_self, div-one, arith, length-append, length-drop}
+use Rattle.std.proofs.Common.{◌≡◌, ℕ, zero, suc, ◌+◌, ◌-◌, ◌*◌, ◌/◌, ◌%◌, ◌^◌, ◌<◌, ◌≤◌, max, Bool, true, false, cond, ◌&&◌, ◌||◌, eqb, leb, ◌⊎◌, List, [], ◌∷◌, ◌++◌, length, take, drop, set, ℤ, pos, negsuc, nat_abs, Some, None, decimal, Option, sym, refl, ap, ◌∙◌, subst, inl, inr, ⊎_elim, append_assoc, div-le_self, div-one, arith, length-append, length-drop}
 use native.Mathlib.Nat.{mod-add-div'}
 use borrow.Rule.Slice.PartMut.{put_mid}
 use Rattle.std.specs.List.{prefix_len, suffix_len, AllByRecursion}
+use Rattle.std.proofs.Math.Nat.{one-le-pow}
 use Rattle.std.proofs.lemmas.Nat.{div_below, pow-add}
 use Rattle.std.proofs.lemmas.Fmt.{decimal_digit, decimal_nonempty, length-decimal-le}
 use Rattle.std.proofs.ByRecursion.{All-append, All-weaker}
@@ -42,16 +43,12 @@ worth_counted (d ∷ ds) = ⊎_elim
     (λ other. ap (λ k. worth (drop k (d ∷ ds))) (cond-false (is_zero d) _ _ other))
     (cases_Bool (is_zero d))
 
-ten_pos : (k : ℕ) → 0 < 10 ^ k
-ten_pos zero = omega arith
-ten_pos (suc k) = omega (arith, pow-suc 10 k, ten_pos k)
-
 -- a number of at most 18 digits without the fraction's
 below : (n scale : ℕ) → n < 10 ^ 18 → scale ≤ 18 → n / 10 ^ scale < 10 ^ (18 - scale)
 below n scale small le =
     let all : 18 - scale + scale ≡ 18 = omega arith in
     let split : 10 ^ (18 - scale) * 10 ^ scale ≡ 10 ^ 18 = sym (pow-add 10 (18 - scale) scale) ∙ ap (λ e. 10 ^ e) all in
-    div_below n (10 ^ scale) (10 ^ (18 - scale)) (ten_pos scale) (omega (arith, split))
+    div_below n (10 ^ scale) (10 ^ (18 - scale)) (one-le-pow scale 10 (omega arith)) (omega (arith, split))
 
 whole_fits : (n scale : ℕ) → n < 10 ^ 18 → n / 10 ^ scale < 2 ^ 64
 whole_fits n scale small = omega (arith, div-le_self n (10 ^ scale))

@@ -1,13 +1,14 @@
 // Doubles, held as a whole number and a scale: how many of its digits are the fraction's.
-ghost use Rattle.std.specs.Prelude.{◌≡◌, ℕ, ◌+◌, ◌/◌, ◌^◌, ◌<◌, ◌≤◌, true, false, length, drop, ℤ, Some, MatchOption, MatchResult, nat_le};
+ghost use Rattle.std.specs.Prelude.{◌≡◌, ℕ, ◌+◌, ◌/◌, ◌^◌, ◌<◌, ◌≤◌, true, false, length, drop, ℤ, Some, MatchResult, nat_le, unsigned_abs};
 ghost use Rattle.std.specs.Result.{result_ok};
 ghost use Rattle.texts.specs.Digits.{worth, worth_after};
 ghost use Rattle.texts.specs.Pages.{Writes};
+ghost use Rattle.numbers.specs.Signs.{is_negative};
 ghost use Rattle.numbers.specs.Doubles.{is_zero, AllDigits, is_fraction, is_plain_double, whole as wholeDigits, fraction as fractionDigits, counted, counted_fraction, double_of, double_spelling, is_double};
 
-use crate::signs::{put_signed, signed_len, split_sign};
+use crate::signs::{Signed, split_sign};
 use texts::Malformed;
-use texts::bytes::{Class, Digit, leading_of, trailing_of, unblanked};
+use texts::bytes::{Class, Digit, all_of, leading_of, trailing_of, unblanked};
 use texts::digits::fill_digits;
 
 // The digit zero, which does not count at either end.
@@ -38,20 +39,13 @@ fn worth_after(n: u64, done: usize, digits: &[u8]) -> u64
 }
 
 // The digits behind the point, none where there is no point.
-fn split_fraction(rest: &[u8]) -> Option<&[u8]>
-    ensures { MatchOption result (is_fraction rest.now ≡ false) (λ f. (is_fraction rest.now ≡ true) × (f.now ≡ drop 1 rest.now) × AllDigits f.now) }
+fn split_fraction(rest: &[u8]) -> Result<&[u8], Malformed>
+    ensures { MatchResult result (λ f. (is_fraction rest.now ≡ true) × (f.now ≡ drop 1 rest.now) × AllDigits f.now) (λ _. is_fraction rest.now ≡ false) }
 {
     match rest {
-        [] => Some(rest),
-        [b'.', digits @ ..] => {
-            let n = leading_of::<Digit>(digits);
-            if n > 0 && n == digits.len() {
-                Some(digits)
-            } else {
-                None
-            }
-        }
-        _ => None,
+        [] => Ok(rest),
+        [b'.', digits @ ..] if !digits.is_empty() && all_of::<Digit>(digits) => Ok(digits),
+        _ => Err(Malformed),
     }
 }
 
@@ -60,29 +54,25 @@ fn count_digits(whole: &[u8], fraction: &[u8]) -> Result<(u64, u8), Malformed>
     requires { (AllDigits whole.now) × (AllDigits fraction.now) }
     ensures { MatchResult result (λ p. (nat_le (length (counted whole.now fraction.now)) 18 ≡ true) × (p.0 ≡ worth (counted whole.now fraction.now)) × (p.1 ≡ length (counted_fraction fraction.now)) × (p.0 < 10 ^ 18)) (λ _. nat_le (length (counted whole.now fraction.now)) 18 ≡ false) }
 {
-    let zeros = leading_of::<Zero>(whole);
-    let before = whole.len() - zeros;
-    let after = fraction.len() - trailing_of::<Zero>(fraction);
-    if before > MOST || after > MOST - before {
+    let whole = &whole[leading_of::<Zero>(whole)..];
+    let fraction = &fraction[..fraction.len() - trailing_of::<Zero>(fraction)];
+    if whole.len() + fraction.len() > MOST {
         return Err(Malformed);
     }
-    let n = worth_after(0, 0, &whole[zeros..whole.len()]);
-    let n = worth_after(n, before, &fraction[0..after]);
-    Ok((n, after as u8))
+    let n = worth_after(0, 0, whole);
+    let n = worth_after(n, whole.len(), fraction);
+    Ok((n, fraction.len() as u8))
 }
 
 // The number and the scale of a double without its sign.
 fn read_unsigned(text: &[u8]) -> Result<(u64, u8), Malformed>
     ensures { MatchResult result (λ p. (is_plain_double text.now ≡ true) × (p.0 ≡ worth (counted (wholeDigits text.now) (fractionDigits text.now))) × (p.1 ≡ length (counted_fraction (fractionDigits text.now))) × (p.0 < 10 ^ 18)) (λ _. is_plain_double text.now ≡ false) }
 {
-    let digits = leading_of::<Digit>(text);
-    if digits == 0 {
+    let (whole, rest) = text.split_at(leading_of::<Digit>(text));
+    if whole.is_empty() {
         return Err(Malformed);
     }
-    let Some(fraction) = split_fraction(&text[digits..text.len()]) else {
-        return Err(Malformed);
-    };
-    count_digits(&text[0..digits], fraction)
+    count_digits(whole, split_fraction(rest)?)
 }
 
 // The number and the scale that a text spells; both are such as a double can have.
@@ -92,27 +82,25 @@ pub fn read_double(text: &[u8]) -> Result<(i64, u8), Malformed>
 {
     let (minus, digits) = split_sign(unblanked(text));
     let (magnitude, scale) = read_unsigned(digits)?;
-    let number = magnitude as i64;
-    Ok((if minus { -number } else { number }, scale))
+    Ok((Signed { minus, magnitude }.number(), scale))
 }
 
 // A number without its last `scale` digits.
-fn whole_part(n: u64, scale: u8) -> u64
-    ensures value { result ≡ n / 10 ^ scale }
+fn whole_part(number: i64, scale: u8) -> Signed
+    ensures { result ≡ record { minus = is_negative number; magnitude = unsigned_abs number / 10 ^ scale } }
 {
-    let mut rest = n;
-    for _ in 0..scale {
-        rest /= 10;
-    }
-    rest
+    let Signed { minus, magnitude } = Signed::from(number);
+    let magnitude = 10_u64
+        .checked_pow(u32::from(scale))
+        .map_or(0, |power| magnitude / power);
+    Signed { minus, magnitude }
 }
 
 // How long the spelling of a number with a scale is.
 pub fn double_len(number: i64, scale: u8) -> usize
     ensures { result ≡ length (double_spelling number scale) }
 {
-    let whole = whole_part(number.unsigned_abs(), scale);
-    signed_len(number < 0, whole) + 1 + usize::from(scale.max(1))
+    whole_part(number, scale).len() + 1 + usize::from(scale.max(1))
 }
 
 // Writes the spelling of a number with a scale.
@@ -120,16 +108,15 @@ pub fn write_double(number: i64, scale: u8, page: &mut [u8]) -> Option<usize>
     ensures page { Writes (double_spelling number scale) page.old page.new result }
     ensures reads_back { is_double number scale ≡ true → double_of (double_spelling number scale) ≡ Some (number, scale) }
 {
-    let magnitude = number.unsigned_abs();
-    let whole = whole_part(magnitude, scale);
-    let point = signed_len(number < 0, whole);
+    let whole = whole_part(number, scale);
+    let point = whole.len();
     let len = point + 1 + usize::from(scale.max(1));
     if len > page.len() {
         return None;
     }
-    put_signed(number < 0, whole, point, page);
+    whole.put(&mut page[..point]);
     page[point] = b'.';
-    let fraction = if scale == 0 { 0 } else { magnitude };
-    let _ = fill_digits(fraction, &mut page[point + 1..len]);
+    let fraction = if scale == 0 { 0 } else { number.unsigned_abs() };
+    fill_digits(fraction, &mut page[point + 1..len]);
     Some(len)
 }

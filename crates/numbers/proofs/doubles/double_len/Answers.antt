@@ -6,8 +6,9 @@ use Rattle.numbers.proofs.doubles.double_len.Goals as goal
 
 pub returns : goal.returns
 returns c =
-    let f : SFits w64 c.args.number = c.ranges.number in
-    let same = to_z-of_z w64 c.args.number f in
-    let size : c.whole_part-whole.result ≡ nat_abs c.args.number / 10 ^ c.args.scale = c.whole_part-whole.ensures.value ∙ ap (λ n. n / 10 ^ c.args.scale) (c.unsigned_abs.ensures.value ∙ ap nat_abs same) in
-    let front : c.signed_len.result ≡ length (signed_spelling (is_negative c.args.number) (nat_abs c.args.number / 10 ^ c.args.scale)) = c.signed_len.ensures.0 ∙ (λ i. length (signed_spelling (is_negative (same i)) (size i))) in
-    omega (arith, front, c.from.ensures, c.max.ensures, length-double (is_negative c.args.number) (nat_abs c.args.number / 10 ^ c.args.scale) (nat_abs c.args.number) c.args.scale)
+    let z = c.args.number in
+    let s = c.args.scale in
+    let f : SFits w64 z = c.ranges.number in
+    let whole = simp to_z-of_z at c.whole_part.ensures in
+    let front : c.len.result ≡ length (signed_spelling (is_negative z) (nat_abs z / 10 ^ s)) = c.len.ensures.value ∙ ap (λ w. length (signed_spelling w.minus w.magnitude)) whole in
+    omega (arith, front, c.from.ensures, c.max.ensures, length-double (is_negative z) (nat_abs z / 10 ^ s) (nat_abs z) s)
