@@ -1,15 +1,18 @@
 -- A text that is a date is the spelling of its moment, and the spelling of a moment reads as that moment.
-use Rattle.std.proofs.Common.{◌≡◌, ℕ, ◌+◌, ◌-◌, ◌*◌, ◌/◌, ◌%◌, ◌≤◌, Bool, true, false, ◌&&◌, eqb, leb, List, [], ◌∷◌, ◌++◌, length, get_or, Some, None, sym, refl, ap, ◌∙◌, ⊎_elim, arith}
+use Rattle.std.proofs.Common.{◌≡◌, ℕ, ◌+◌, ◌-◌, ◌*◌, ◌/◌, ◌%◌, ◌≤◌, Bool, true, false, ◌&&◌, eqb, leb, List, [], ◌∷◌, ◌++◌, length, get_or, Some, None, Option, MatchOption, sym, refl, ap, ◌∙◌, ⊎_elim, arith}
 use Rattle.std.specs.List.{AllByRecursion}
 use Rattle.std.proofs.ByRecursion.{All-append, All-weaker}
 use Rattle.std.proofs.lemmas.Slice.Eq.{text_from_reads}
-use Rattle.std.proofs.lemmas.Bool.{and_parts, and_from, and_left, leb-true, eqb-true, cond-true, cond-false, cases_Bool}
+use Rattle.std.proofs.lemmas.Bool.{and_parts, and_from, and_left, and_right, eq-eqb, leb-true, eqb-true, cond-true, cond-false, cases_Bool}
 use Rattle.std.proofs.lemmas.Bool.Decides.{nat_tests}
 use Rattle.texts.specs.Bytes.{is_blank, unblanked}
 use Rattle.texts.specs.Digits.{is_digit, padded}
 use Rattle.texts.proofs.Bare.{unblanked_bare, digit_bare}
 use Rattle.texts.proofs.Numerals.{all_padded}
 use Rattle.dates.specs.Calendar.{every, days_in}
+use Rattle.std.specs.Option.{option_map}
+use Rattle.dates.specs.declared.date.Date.{Date}
+use Rattle.dates.specs.Dates.{moment_of}
 use Rattle.dates.specs.Moments.{Moment, is_moment, are_digits, is_shaped, moment_at, plain_date, date_of, date_spelling}
 
 every_all : (tests : List Bool) → every tests ≡ true → AllByRecursion (λ t. t ≡ true) tests
@@ -67,6 +70,21 @@ unshaped bs other = ⊎_elim
     (λ yes. absurd (other yes))
     (λ bad. sym (cond-false (is_shaped bs && is_moment (moment_at bs)) (Some (moment_at bs)) None (and_left (is_shaped bs) (is_moment (moment_at bs)) bad)))
     (cases_Bool (is_shaped bs))
+
+-- a text with these tests passed has the shape
+pub shaped_by : (bs : List ℕ) → length bs ≡ 17 → get_or bs 8 0 ≡ 84 → get_or bs 11 0 ≡ 58 → get_or bs 14 0 ≡ 58 →
+    are_digits bs 0 ≡ true → are_digits bs 2 ≡ true → are_digits bs 4 ≡ true → are_digits bs 6 ≡ true → are_digits bs 9 ≡ true → are_digits bs 12 ≡ true → are_digits bs 15 ≡ true →
+    is_shaped bs ≡ true
+shaped_by bs len mark colon colon-2 century year month day hour minute second =
+    all_every (
+    eqb (length bs) 17 ∷ are_digits bs 0 ∷ are_digits bs 2 ∷ are_digits bs 4 ∷ are_digits bs 6 ∷ eqb (get_or bs 8 0) 84 ∷
+    are_digits bs 9 ∷ eqb (get_or bs 11 0) 58 ∷ are_digits bs 12 ∷ eqb (get_or bs 14 0) 58 ∷ are_digits bs 15 ∷ [])
+    (eq-eqb _ _ len, (century, (year, (month, (day, (eq-eqb _ _ mark, (hour, (eq-eqb _ _ colon, (minute, (eq-eqb _ _ colon-2, (second, tt)))))))))))
+
+-- what is made of the moment of such a text is the date that it spells
+pub read_by : (bs : List ℕ) (r : Option Date) → is_shaped bs ≡ true → MatchOption r (is_moment (moment_at bs) ≡ false) (λ d. moment_of d ≡ moment_at bs) → option_map moment_of r ≡ plain_date bs
+read_by bs None h other = sym (cond-false _ (Some (moment_at bs)) None (and_right (is_shaped bs) (is_moment (moment_at bs)) other))
+read_by bs (Some d) h same = ap Some same ∙ sym (cond-true _ (Some (moment_at bs)) None (and_from (is_shaped bs) (is_moment (moment_at bs)) h (sym (ap is_moment same) ∙ d.ok)))
 
 pub spelled : (bs : List ℕ) → is_shaped bs ≡ true → bs ≡ date_spelling (moment_at bs)
 spelled bs h =

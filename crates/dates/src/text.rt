@@ -1,10 +1,11 @@
 // The text of a date, read and written.
-ghost use Rattle.std.specs.Prelude.{◌≡◌, ℕ, ◌+◌, ◌<◌, true, false, length, Some, MatchOption};
+ghost use Rattle.std.specs.Prelude.{◌≡◌, ℕ, ◌+◌, ◌-◌, ◌*◌, ◌<◌, ◌&&◌, true, false, length, Some, MatchOption};
 ghost use Rattle.std.specs.Option.{option_map};
 ghost use Rattle.std.specs.Result.{result_ok};
 ghost use Rattle.texts.specs.Bytes.{unblanked as withoutBlanks};
+ghost use Rattle.texts.specs.Digits.{is_digit};
 ghost use Rattle.texts.specs.Pages.{Writes};
-ghost use Rattle.dates.specs.Moments.{Moment, are_digits, two, plain_date, date_of, date_spelling};
+ghost use Rattle.dates.specs.Moments.{Moment, plain_date, date_of, date_spelling};
 ghost use Rattle.dates.specs.Dates.{moment_of};
 
 use crate::date::Date;
@@ -15,13 +16,10 @@ use texts::pages::write_text;
 // How long every date is.
 const LEN: usize = 17;
 
-// What two digits at a place are worth.
-fn two_digits_at(text: &[u8], at: usize) -> Option<u8>
-    requires { at + 1 < length text.now }
-    ensures { MatchOption result (are_digits text.now at ≡ false) (λ n. (are_digits text.now at ≡ true) × (n ≡ two text.now at) × (n < 100)) }
+// What two digits are worth.
+fn two_digits(tens: u8, ones: u8) -> Option<u8>
+    ensures { MatchOption result ((is_digit tens && is_digit ones) ≡ false) (λ n. ((is_digit tens && is_digit ones) ≡ true) × (n ≡ (tens - 48) * 10 + (ones - 48)) × (n < 100)) }
 {
-    let tens = text[at];
-    let ones = text[at + 1];
     if !tens.is_ascii_digit() || !ones.is_ascii_digit() {
         return None;
     }
@@ -32,27 +30,21 @@ fn two_digits_at(text: &[u8], at: usize) -> Option<u8>
 fn read_plain(text: &[u8]) -> Option<Date>
     ensures { option_map moment_of result ≡ plain_date text.now }
 {
-    if text.len() != LEN {
+    let &[c0, c1, y0, y1, m0, m1, d0, d1, b'T', ref time @ ..] = text else {
         return None;
-    }
-    if text[8] != b'T' || text[11] != b':' || text[14] != b':' {
+    };
+    let &[h0, h1, b':', i0, i1, b':', s0, s1] = time else {
         return None;
-    }
-    let century = two_digits_at(text, 0)?;
-    let year = two_digits_at(text, 2)?;
-    let month = two_digits_at(text, 4)?;
-    let day = two_digits_at(text, 6)?;
-    let hour = two_digits_at(text, 9)?;
-    let minute = two_digits_at(text, 12)?;
-    let second = two_digits_at(text, 15)?;
-    Date::new(
-        u16::from(century) * 100 + u16::from(year),
-        month,
-        day,
-        hour,
-        minute,
-        second,
-    )
+    };
+    let century = two_digits(c0, c1)?;
+    let year = two_digits(y0, y1)?;
+    let month = two_digits(m0, m1)?;
+    let day = two_digits(d0, d1)?;
+    let hour = two_digits(h0, h1)?;
+    let minute = two_digits(i0, i1)?;
+    let second = two_digits(s0, s1)?;
+    let year = u16::from(century) * 100 + u16::from(year);
+    Date::new(year, month, day, hour, minute, second)
 }
 
 // The date that a text spells; without the blanks round it the text is the date's own spelling.
