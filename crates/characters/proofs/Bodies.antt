@@ -1,5 +1,6 @@
 -- References in a text: what stands between `&` and `;`.
-use Rattle.std.proofs.Common.{◌≡◌, ℕ, suc, ◌+◌, true, false, eqb, ltb, List, [], ◌∷◌, ◌++◌, length, take, drop, Some, sym, refl, ap, ◌∙◌, arith, length-append}
+use Rattle.std.proofs.Common.{◌≡◌, ℕ, suc, ◌+◌, Bool, true, false, cond, eqb, ltb, List, [], ◌∷◌, ◌++◌, length, take, drop, Some, None, Option, MatchOption, sym, refl, ap, ◌∙◌, subst, arith, length-append}
+use Rattle.std.specs.Option.{option_map}
 use Rattle.std.specs.List.{AllByRecursion}
 use Rattle.std.proofs.lemmas.List.{drop-drop, drop_at, take_at}
 use Rattle.std.proofs.lemmas.Bool.{lt-ltb, ne_eqb}
@@ -48,3 +49,15 @@ module _ (b : ℕ) (rest : List ℕ) (not-amp : b ≡ 38 → ⊥) (not-return : 
 
   pub byte_good : (at : ℕ) → first_bad_from at 0 (b ∷ rest) ≡ first_bad_from (at + 1) 0 rest
   byte_good at = ap (λ o. bad_or at o (λ k. first_bad_from (at + 1) k rest)) unit_byte
+
+-- the reference of a text in which a `;` is found, or none is
+pub reference_found : (bs : List ℕ) (end : Option ℕ) → end ≡ cond (ltb (body_len bs) (length bs)) (Some (body_len bs)) None
+    → MatchOption end (reference_at bs ≡ None) (λ n. reference_at bs ≡ option_map (λ c. (c, n + 1)) (referenced (take n bs)))
+unfolding reference_at
+reference_found bs end e = go (ltb (body_len bs) (length bs)) refl where
+  here : Option ℕ → Type 0
+  here o = MatchOption o (reference_at bs ≡ None) (λ n. reference_at bs ≡ option_map (λ c. (c, n + 1)) (referenced (take n bs)))
+
+  go : (t : Bool) → ltb (body_len bs) (length bs) ≡ t → MatchOption end (reference_at bs ≡ None) (λ n. reference_at bs ≡ option_map (λ c. (c, n + 1)) (referenced (take n bs)))
+  go true t = subst here (sym (simp t at e)) (simp t)
+  go false t = subst here (sym (simp t at e)) (simp t)

@@ -1,6 +1,8 @@
 pub mod Names
 pub mod Numerals
 pub mod Steps
+pub mod Equal
+pub mod Counting
 pub mod Pages
 pub mod Leading
 pub mod Bodies

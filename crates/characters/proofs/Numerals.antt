@@ -1,5 +1,5 @@
 -- The number that digits are worth, digit by digit.
-use Rattle.std.proofs.Common.{◌≡◌, ℕ, ◌+◌, ◌*◌, ◌^◌, ◌<◌, ◌≤◌, true, false, List, length, get_or, drop, sym, refl, ◌∙◌, mul-le-mul_left, arith, lit<, pow-add}
+use Rattle.std.proofs.Common.{◌≡◌, ℕ, ◌+◌, ◌*◌, ◌^◌, ◌<◌, ◌≤◌, Bool, true, false, cond, ltb, leb, List, length, get_or, drop, Some, None, sym, refl, ◌∙◌, mul-le-mul_left, arith, lit<, pow-add}
 use native.Mathlib.Nat.{pow-le-pow_right}
 use Rattle.std.specs.Str.Parse.{digits_value, digits_value_after}
 use Rattle.std.specs.Char.{digit_value}
@@ -7,7 +7,9 @@ use Rattle.std.specs.List.{prefix_len}
 use Rattle.std.proofs.lemmas.List.{at_drop_more, at_drop_all}
 use Rattle.std.proofs.lemmas.List.Sums.{prefix_len-drop_yes, prefix_len-drop_no, prefix_len-drop_all}
 use Rattle.std.proofs.lemmas.Bool.{lt-ltb, le-ltb, eq-eqb, ne_eqb, cases_lt}
-use Rattle.characters.specs.References.{is_digit_of, all_digits}
+use Rattle.std.proofs.lemmas.Bool.Decides.{nat_tests}
+use Rattle.std.specs.Bool.{then_some}
+use Rattle.characters.specs.References.{is_character, is_digit_of, all_digits, numeral}
 
 -- i digits have been read, which are worth n
 pub record Worth (radix n i : ℕ) (ds : List ℕ) : Type 0 where
@@ -51,3 +53,14 @@ worth_all radix n i ds w le ge =
     let e : digits_value_after radix n (drop i ds) ≡ n = at_drop_all (digits_value_after radix n) ds i le in
     let p = prefix_len-drop_all (is_digit_of radix) ds i le in
     (eq-eqb _ _ (omega (arith, p, w.passed)), sym e ∙ w.rest)
+
+-- what digits of the right number name
+pub numeral_of : (radix most : ℕ) (ds : List ℕ) (n : ℕ) → 0 < length ds → length ds ≤ most → all_digits radix ds ≡ true → n ≡ digits_value radix ds → numeral radix most ds ≡ then_some (is_character n) n
+unfolding numeral
+numeral_of radix most ds n some few all is =
+    let p : ltb 0 (length ds) ≡ true = lt-ltb _ _ some in
+    let q : leb (length ds) most ≡ true = grind (arith, nat_tests) in
+    simp (p, q, all, is) (go (is_character (digits_value radix ds)) (digits_value radix ds)) where
+      go : (b : Bool) (m : ℕ) → cond b (Some m) None ≡ then_some b m
+      go true m = refl
+      go false m = refl

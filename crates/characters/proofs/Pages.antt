@@ -1,6 +1,7 @@
 -- A page to which characters are written one after another.
-use Rattle.std.proofs.Common.{◌≡◌, ℕ, ◌+◌, ◌<◌, ◌≤◌, List, [], ◌∷◌, ◌++◌, length, get_or, take, drop, Some, None, sym, ap, ◌∙◌, append_assoc, length-append}
-use Rattle.std.proofs.lemmas.List.{at_drop_more, at_drop_all, drop-drop, drop_at, take_at, take_more, flat_map_more}
+use Rattle.std.proofs.Common.{◌≡◌, ℕ, ◌+◌, ◌-◌, ◌<◌, ◌≤◌, List, [], ◌∷◌, ◌++◌, length, get_or, take, drop, Some, None, sym, ap, ◌∙◌, append_assoc, append-nil, length-append, length-drop, arith}
+use borrow.Rule.Slice.PartMut.{put_mid}
+use Rattle.std.proofs.lemmas.List.{at_drop_more, at_drop_all, drop-drop, drop_all, take_rest, drop_at, take_at, take_more, flat_map_more}
 use Rattle.characters.specs.Spelling.{reference_for, or_itself, escape, characters_spelling}
 
 pub escape_some : (c : ℕ) (w : List ℕ) → reference_for c ≡ Some w → escape c ≡ w
@@ -31,3 +32,12 @@ page_more old page w t at e p =
     let back : drop (at + length t) page ≡ drop (at + length t) old =
     ap (drop (at + length t)) p ∙ sym (drop-drop (length t) at (w ++ drop at old)) ∙ ap (drop (length t)) (drop_at w (drop at old) at (sym e)) ∙ drop-drop (length t) at old in
     ap (λ l. l ++ (t ++ drop (at + length t) page)) front ∙ ap (λ l. w ++ (t ++ l)) back ∙ sym (append_assoc w t (drop (at + length t) old))
+
+-- the same, where the text was written to the part of the page that begins there
+pub page_put : (old page w t part : List ℕ) (at : ℕ) → at ≡ length w → page ≡ w ++ drop at old → part ≡ t ++ drop (length t) (take (length page - at) (drop at page))
+    → put_mid at (length page - at) page part ≡ (w ++ t) ++ drop (at + length t) old
+page_put old page w t part at e p put =
+    let rest : part ≡ t ++ drop (at + length t) page = put ∙ ap (λ l. t ++ drop (length t) l) (take_rest page at) ∙ ap (λ l. t ++ l) (drop-drop (length t) at page) in
+    let long = length-drop at page in
+    let none : drop (length page - at) (drop at page) ≡ [] = drop_all (length page - at) (drop at page) (omega arith) in
+    ap (λ l. take at page ++ (part ++ l)) none ∙ ap (λ l. take at page ++ l) (append-nil part ∙ rest) ∙ page_more old page w t at e p

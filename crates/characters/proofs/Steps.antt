@@ -1,7 +1,6 @@
 -- What is left of a text, one unit on.
-use Rattle.std.proofs.Common.{◌≡◌, ℕ, zero, suc, ◌+◌, ◌<◌, ◌≤◌, true, false, eqb, List, [], ◌∷◌, length, get_or, drop, Some, None, Option, sym, refl, ap, ◌∙◌, ⊎_elim, arith}
+use Rattle.std.proofs.Common.{◌≡◌, ℕ, zero, suc, ◌+◌, true, false, eqb, List, [], ◌∷◌, length, drop, Some, None, sym, refl, ap, ◌∙◌, ⊎_elim, arith}
 use Rattle.std.specs.List.{prefix_len}
-use Rattle.std.proofs.lemmas.List.{at_drop_more, at_drop_all, drop-drop}
 use Rattle.std.proofs.lemmas.Bool.{cond-true, cond-false, cases_Bool}
 use Rattle.std.proofs.lemmas.Bool.Decides.{nat_tests}
 use Rattle.characters.specs.Decoding.{is_plain, unit_at, before, bad_or, decoded_from, decoded, first_bad_from}
@@ -55,40 +54,16 @@ bad_plain at (b ∷ bs) = ⊎_elim
     ap (λ n. first_bad_from n 0 (b ∷ bs)) on ∙ ap (λ k. first_bad_from (at + k) 0 (drop k (b ∷ bs))) (sym none))
     (cases_Bool (is_plain b))
 
-module _ (text : List ℕ) (i : ℕ) where
-  -- the same at a place of a text
-  pub plain_more : (n j : ℕ) → n ≡ prefix_len is_plain (drop i text) → j ≡ i + n →
-      (length (decoded (drop i text)) ≡ n + length (decoded (drop j text))) × (first_bad_from i 0 (drop i text) ≡ first_bad_from j 0 (drop j text))
-  plain_more n j e f =
-      let on : j ≡ i + plain_len (drop i text) = omega (arith, e, f) in
-      let there : drop (plain_len (drop i text)) (drop i text) ≡ drop j text = drop-drop (plain_len (drop i text)) i text ∙ ap (λ k. drop k text) (sym on) in
-      (omega (arith, decoded_plain (drop i text), ap (λ t. length (decoded t)) there, e), bad_plain i (drop i text) ∙ (λ k. first_bad_from (sym on k) 0 (there k)))
+-- the unit at the front of a text: its character, then the characters behind it; at a bad reference there are none
+module _ (b : ℕ) (bs : List ℕ) where
+  pub decoded_some : (u : ℕ × ℕ) → unit_at b bs ≡ Some u → decoded (b ∷ bs) ≡ u.0 ∷ decoded (drop u.1 bs)
+  decoded_some u e = ap (λ o. before o (λ k. decoded_from k bs)) e ∙ ap (λ cs. u.0 ∷ cs) (decoded_skips u.1 bs)
 
-  abbrev pub unit_there : Option (ℕ × ℕ)
-  unit_there = unit_at (get_or text i 0) (drop (i + 1) text)
+  pub decoded_none : unit_at b bs ≡ None → decoded (b ∷ bs) ≡ []
+  decoded_none e = ap (λ o. before o (λ k. decoded_from k bs)) e
 
-  pub decoded_some : (u : ℕ × ℕ) → i < length text → unit_there ≡ Some u → decoded (drop i text) ≡ u.0 ∷ decoded (drop (i + 1 + u.1) text)
-  decoded_some u h e =
-      let s : decoded (drop i text) ≡ before unit_there (λ k. decoded_from k (drop (i + 1) text)) = at_drop_more decoded text i 0 h in
-      s ∙ ap (λ o. before o (λ k. decoded_from k (drop (i + 1) text))) e ∙ ap (λ cs. u.0 ∷ cs) (decoded_skips u.1 (drop (i + 1) text) ∙ ap decoded (drop-drop u.1 (i + 1) text))
+  pub bad_some : (at : ℕ) (u : ℕ × ℕ) → unit_at b bs ≡ Some u → first_bad_from at 0 (b ∷ bs) ≡ first_bad_from (at + 1 + u.1) 0 (drop u.1 bs)
+  bad_some at u e = ap (λ o. bad_or at o (λ k. first_bad_from (at + 1) k bs)) e ∙ bad_skips (at + 1) u.1 bs
 
-  pub decoded_none : i < length text → unit_there ≡ None → decoded (drop i text) ≡ []
-  decoded_none h e =
-      let s : decoded (drop i text) ≡ before unit_there (λ k. decoded_from k (drop (i + 1) text)) = at_drop_more decoded text i 0 h in
-      s ∙ ap (λ o. before o (λ k. decoded_from k (drop (i + 1) text))) e
-
-  pub decoded_end : length text ≤ i → decoded (drop i text) ≡ []
-  decoded_end h = at_drop_all decoded text i h
-
-  pub bad_some : (u : ℕ × ℕ) → i < length text → unit_there ≡ Some u → first_bad_from i 0 (drop i text) ≡ first_bad_from (i + 1 + u.1) 0 (drop (i + 1 + u.1) text)
-  bad_some u h e =
-      let s : first_bad_from i 0 (drop i text) ≡ bad_or i unit_there (λ k. first_bad_from (i + 1) k (drop (i + 1) text)) = at_drop_more (first_bad_from i 0) text i 0 h in
-      s ∙ ap (λ o. bad_or i o (λ k. first_bad_from (i + 1) k (drop (i + 1) text))) e ∙ (bad_skips (i + 1) u.1 (drop (i + 1) text) ∙ ap (first_bad_from (i + 1 + u.1) 0) (drop-drop u.1 (i + 1) text))
-
-  pub bad_none : i < length text → unit_there ≡ None → first_bad_from i 0 (drop i text) ≡ Some i
-  bad_none h e =
-      let s : first_bad_from i 0 (drop i text) ≡ bad_or i unit_there (λ k. first_bad_from (i + 1) k (drop (i + 1) text)) = at_drop_more (first_bad_from i 0) text i 0 h in
-      s ∙ ap (λ o. bad_or i o (λ k. first_bad_from (i + 1) k (drop (i + 1) text))) e
-
-  pub bad_end : length text ≤ i → first_bad_from i 0 (drop i text) ≡ None
-  bad_end h = at_drop_all (first_bad_from i 0) text i h
+  pub bad_none : (at : ℕ) → unit_at b bs ≡ None → first_bad_from at 0 (b ∷ bs) ≡ Some at
+  bad_none at e = ap (λ o. bad_or at o (λ k. first_bad_from (at + 1) k bs)) e

@@ -1,12 +1,11 @@
 // Whether a text is character data, and how many characters it has.
 ghost use Rattle.std.specs.Prelude.{◌≡◌};
 ghost use Rattle.characters.specs.Checking.{counted, checked, Within};
-ghost use Rattle.characters.specs.References.{all_characters};
 ghost use Rattle.characters.specs.Rule.{Judges};
 
-use crate::reference::is_character;
-use crate::unit::unit;
-use texts::bytes::leading_of;
+use crate::class::Character;
+use crate::unit::{Plain, unit};
+use texts::bytes::{all_of, leading_of};
 
 // Why a text is no character data.
 #[derive(Clone, Copy, PartialEq, Eq, Debug)]
@@ -17,34 +16,20 @@ pub enum BadCharacters {
     Reference(usize),
 }
 
-// Whether every byte may stand in a text.
-fn all_characters(text: &[u8]) -> bool
-    ensures { result ≡ all_characters text.now }
-{
-    for b in text {
-        if !is_character(u32::from(*b)) {
-            return false;
-        }
-    }
-    true
-}
-
 // How many characters a text has, or where its first bad reference stands.
 pub fn count_characters(text: &[u8]) -> Result<usize, BadCharacters>
     ensures value { result ≡ counted text.now }
     ensures within { Within text.now result }
 {
-    let mut at = leading_of::<crate::unit::Plain>(text);
-    let mut count = at;
-    while at < text.len() {
-        match unit(text[at], &text[at + 1..text.len()]) {
-            Some((_, more)) => at += 1 + more,
-            None => return Err(BadCharacters::Reference(at)),
-        }
-        let plain = leading_of::<crate::unit::Plain>(&text[at..text.len()]);
-        at += plain;
-        count += plain;
-        count += 1;
+    let mut count = leading_of::<Plain>(text);
+    let mut rest = &text[count..];
+    while let Some((first, behind)) = rest.split_first() {
+        let at = text.len() - rest.len();
+        let (_, more) = unit(*first, behind).ok_or(BadCharacters::Reference(at))?;
+        let next = &behind[more..];
+        let plain = leading_of::<Plain>(next);
+        count += 1 + plain;
+        rest = &next[plain..];
     }
     Ok(count)
 }
@@ -54,7 +39,7 @@ pub fn check_characters(text: &[u8]) -> Result<usize, BadCharacters>
     ensures verdict { result ≡ checked text.now }
     ensures rule { Judges text.now result }
 {
-    if !all_characters(text) {
+    if !all_of::<Character>(text) {
         return Err(BadCharacters::Byte);
     }
     count_characters(text)

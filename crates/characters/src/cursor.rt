@@ -1,16 +1,15 @@
 // A cursor that gives the characters of a text one after another.
-ghost use Rattle.std.specs.Prelude.{◌≡◌, length};
+ghost use Rattle.std.specs.Prelude.{◌≡◌};
 ghost use Rattle.characters.specs.Decoding.{decoded};
 ghost use Rattle.characters.specs.Left.{left as toCome, Gives};
-ghost use Rattle.std.specs.Iterator.{at_most};
+ghost use Rattle.std.specs.Iterator.{item_count};
 
 use crate::unit::unit;
 
-// The characters of a text that are still to come.
+// The characters of a text that are still to come: those of what is left of it.
 #[derive(Drop)]
 pub struct Characters<'a> {
-    text: &'a [u8],
-    at: usize,
+    rest: &'a [u8],
 }
 
 impl<'a> Characters<'a> {
@@ -18,7 +17,7 @@ impl<'a> Characters<'a> {
     pub fn new(text: &'a [u8]) -> Characters<'a>
         ensures { toCome result ≡ decoded text.now }
     {
-        Characters { text, at: 0 }
+        Characters { rest: text }
     }
 }
 
@@ -27,21 +26,13 @@ impl<'a> Iterator for Characters<'a> {
 
     ghost next_gives = { λ cursor given next. Gives cursor given next };
 
-    ghost remaining = { λ cursor. at_most (length (toCome cursor)) };
+    ghost remaining = { item_count toCome };
 
     // The next character, or none at the end and from a bad reference on.
     fn next(&mut self) -> Option<u8> {
-        let text = self.text;
-        let at = self.at;
-        if at >= text.len() {
-            return None;
-        }
-        match unit(text[at], &text[at + 1..text.len()]) {
-            Some((c, more)) => {
-                self.at = at + 1 + more;
-                Some(c)
-            }
-            None => None,
-        }
+        let (first, behind) = self.rest.split_first()?;
+        let (c, more) = unit(*first, behind)?;
+        self.rest = &behind[more..];
+        Some(c)
     }
 }

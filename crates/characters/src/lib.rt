@@ -2,6 +2,7 @@
 #![tactic(auto)]
 
 mod check;
+mod class;
 mod compare;
 mod cursor;
 mod reference;
@@ -9,6 +10,7 @@ mod unit;
 mod write;
 
 pub use check::{BadCharacters, check_characters, count_characters};
+pub use class::Character;
 pub use compare::{characters_are, same_characters};
 pub use cursor::Characters;
 pub use write::{characters_len, escaped, write_characters};

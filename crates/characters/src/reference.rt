@@ -1,7 +1,10 @@
 // References: what the body of one, between `&` and `;`, names.
 ghost use Rattle.std.specs.Prelude.{◌≡◌, ◌≤◌, true, false, length, MatchOption};
-ghost use Rattle.characters.specs.References.{is_character, all_digits, named, numbered, numeral, referenced};
+ghost use Rattle.characters.specs.References.{all_digits, named, numbered, numeral, referenced};
 ghost use Rattle.std.specs.Str.Parse.{digits_value};
+
+use crate::class::Character;
+use texts::bytes::Class;
 
 // The character that a name stands for.
 fn character_named(name: &str) -> Option<u8>
@@ -21,10 +24,7 @@ fn character_named(name: &str) -> Option<u8>
 fn by_name(name: &[u8]) -> Option<u8>
     ensures { result ≡ named name.now }
 {
-    match std::str::from_utf8(name) {
-        Ok(name) => character_named(name),
-        Err(_) => None,
-    }
+    character_named(std::str::from_utf8(name).ok()?)
 }
 
 // What a few digits of a base are worth.
@@ -39,13 +39,6 @@ fn worth(digits: &[u8], radix: u32) -> Option<u32>
     Some(n)
 }
 
-// Whether a number is that of a character.
-pub(crate) fn is_character(n: u32) -> bool
-    ensures { result ≡ is_character n }
-{
-    matches!(n, 9 | 10 | 13 | 32..=126)
-}
-
 // The character whose number is written by one to `most` digits of a base.
 fn by_number(digits: &[u8], radix: u32, most: usize) -> Option<u8>
     requires { (2 ≤ radix) × ((radix ≤ 16) × (most ≤ 5)) }
@@ -54,8 +47,8 @@ fn by_number(digits: &[u8], radix: u32, most: usize) -> Option<u8>
     if digits.is_empty() || digits.len() > most {
         return None;
     }
-    let n = worth(digits, radix)?;
-    if is_character(n) { Some(n as u8) } else { None }
+    let c = u8::try_from(worth(digits, radix)?).ok()?;
+    Character::has(c).then_some(c)
 }
 
 // The character that a numbered reference names, given what stands behind its `#`.

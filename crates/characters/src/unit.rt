@@ -1,6 +1,6 @@
 // One character of a text: a byte that stands for itself, the end of a line, or a reference.
 ghost use Rattle.std.specs.Prelude.{◌≡◌, ◌≤◌, length, IfSome, if◌then◌else◌, nat_eq, slice_index};
-ghost use Rattle.characters.specs.Decoding.{body_len, reference_at, is_plain, unit_at};
+ghost use Rattle.characters.specs.Decoding.{reference_at, is_plain, unit_at};
 
 use crate::reference::character_of;
 use texts::bytes::Class;
@@ -16,31 +16,14 @@ impl Class for Plain {
     }
 }
 
-// How long the body of a reference is: up to its `;`, or to the end.
-fn body_len(text: &[u8]) -> usize
-    ensures { result ≡ body_len text.now }
-{
-    for (i, b) in text.iter().enumerate() {
-        if *b == b';' {
-            return i;
-        }
-    }
-    text.len()
-}
-
 // The character of a reference, given what stands behind its `&`, and how many bytes it takes there.
 fn reference(text: &[u8]) -> Option<(u8, usize)>
     ensures value { result ≡ reference_at text.now }
     ensures within { IfSome result (λ u. u.1 ≤ length text.now) }
 {
-    let n = body_len(text);
-    if n >= text.len() {
-        return None;
-    }
-    match character_of(&text[0..n]) {
-        Some(c) => Some((c, n + 1)),
-        None => None,
-    }
+    let end = text.iter().position(|b| *b == b';')?;
+    let c = character_of(&text[..end])?;
+    Some((c, end + 1))
 }
 
 // How many bytes behind a carriage return end the same line.

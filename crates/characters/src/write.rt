@@ -19,13 +19,11 @@ pub fn escaped(c: char) -> Option<&'static str>
 }
 
 // How many bytes a character takes where it is written.
+#[tactic(auto, using(crate::proofs::Pages::escape_some, crate::proofs::Pages::escape_none), unfolding(crate::specs::Spelling::escape))]
 fn escaped_len(b: u8) -> usize
     ensures { result ≡ length (escape b) }
 {
-    match escaped(char::from(b)) {
-        Some(reference) => reference.len(),
-        None => 1,
-    }
+    escaped(char::from(b)).map_or(1, |reference| reference.len())
 }
 
 // How long the characters are where they are written; none where that is no `usize`.
@@ -39,21 +37,21 @@ pub fn characters_len(plain: &[u8]) -> Option<usize>
     Some(len)
 }
 
-// Writes a character at a place of a page, and gives the place behind it.
-fn put(b: u8, page: &mut [u8], at: usize) -> usize
-    requires { at + length (escape b) ≤ length page.old }
-    ensures end { result ≡ at + length (escape b) }
-    ensures page { page.new ≡ take at page.old ++ (escape b ++ drop (at + length (escape b)) page.old) }
+// Writes a character to the front of a page, and gives its length there.
+#[tactic(auto, using(crate::proofs::Pages::escape_some, crate::proofs::Pages::escape_none), unfolding(crate::specs::Spelling::escape))]
+fn put(b: u8, page: &mut [u8]) -> usize
+    requires { length (escape b) ≤ length page.old }
+    ensures len { result ≡ length (escape b) }
+    ensures page { page.new ≡ escape b ++ drop (length (escape b)) page.old }
 {
     match escaped(char::from(b)) {
         Some(reference) => {
-            let end = at + reference.len();
-            page[at..end].copy_from_slice(reference.as_bytes());
-            end
+            page[..reference.len()].copy_from_slice(reference.as_bytes());
+            reference.len()
         }
         None => {
-            page[at] = b;
-            at + 1
+            page[0] = b;
+            1
         }
     }
 }
@@ -69,7 +67,7 @@ pub fn write_characters(plain: &[u8], page: &mut [u8]) -> Option<usize>
     }
     let mut at = 0;
     for b in plain {
-        at = put(*b, page, at);
+        at += put(*b, &mut page[at..]);
     }
     Some(len)
 }

@@ -6,16 +6,18 @@ use Rattle.characters.specs.declared.check.BadCharacters.TheVariants.{Byte}
 use Rattle.characters.proofs.Reading.{judges}
 use Rattle.characters.proofs.check.check_characters.Goals as goal
 
-pub returns-then-not-all_characters : goal.returns-then-not-all_characters
-returns-then-not-all_characters c =
+pub returns-then-not-all_of : goal.returns-then-not-all_of
+unfolding all_characters
+returns-then-not-all_of c =
     let text = c.args.text.now in
-    let p : all_characters text ≡ false = sym c.all_characters.ensures ∙ c.if-not-all_characters.true in
+    let p : all_characters text ≡ false = sym c.all_of.ensures ∙ c.if-not-all_of.true in
     let v : Err Byte ≡ checked text = sym (simp p) in
     record { verdict = v; rule = subst (Judges text) (sym v) (judges text) }
 
 pub returns : goal.returns
+unfolding all_characters
 returns c =
     let text = c.args.text.now in
-    let p : all_characters text ≡ true = sym c.all_characters.ensures ∙ c.if-not-all_characters.false in
+    let p : all_characters text ≡ true = sym c.all_of.ensures ∙ c.if-not-all_of.false in
     let v : c.count_characters.result ≡ checked text = c.count_characters.ensures.value ∙ sym (simp p) in
     record { verdict = v; rule = subst (Judges text) (sym v) (judges text) }

@@ -1,12 +1,10 @@
-use Rattle.std.proofs.Common.{arith, rules}
-use Rattle.std.proofs.lemmas.List.{drop_more, drop_all}
+use Rattle.std.proofs.Common.{◌≡◌, rules}
+use Rattle.std.proofs.lemmas.Bool.Decides.{nat_tests}
+use Rattle.std.proofs.lemmas.Iterator.{YieldsList-from_slice}
+use Rattle.std.proofs.lemmas.Iterator.Consumers.{YieldsList-from_copied}
+use Rattle.characters.specs.Decoding.{decoded}
+use Rattle.characters.proofs.Equal.{characters_yield, Decides-from_eq}
 use Rattle.characters.proofs.compare.characters_are.Goals as goal
 
-pub returns-then-ne : goal.returns-then-ne
-returns-then-ne c = let rest = drop_more c.args.plain.now c.loop-b.b-index 0 (omega arith) in search rules
-
-pub loop-b-preserved : goal.loop-b-preserved
-loop-b-preserved c = let rest = drop_more c.args.plain.now c.loop-b.b-index 0 (omega arith) in search rules
-
 pub returns : goal.returns
-returns c = let rest = drop_all c.loop-b.b-index c.args.plain.now (omega arith) in search rules
+returns c = Decides-from_eq (λ x y. y ≡ x) _ _ c.eq.ensures.ran (characters_yield (decoded c.args.text.now) (search rules)) (λ it e. YieldsList-from_copied (YieldsList-from_slice c.args.plain.now (cc))) (λ x y. search (rules, nat_tests))

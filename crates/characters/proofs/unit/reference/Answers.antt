@@ -1,33 +1,27 @@
-use Rattle.std.proofs.Common.{◌≡◌, ◌-◌, true, false, ltb, length, take, Some, None, sym, ap, ◌∙◌, arith}
-use Rattle.std.proofs.lemmas.Bool.{lt-ltb, le-ltb}
-use Rattle.characters.specs.Decoding.{body_len, reference_at}
+use Rattle.std.proofs.Common.{◌≡◌, ◌+◌, eqb, take, Some, None, sym, ap, ◌∙◌, rules}
+use Rattle.std.specs.Option.{option_map}
+use borrow.Author.Tests.{tests}
+use Rattle.std.proofs.lemmas.Iterator.{YieldsList-from_slice}
+use Rattle.std.proofs.lemmas.Iterator.Search.{position_from_yields_List}
 use Rattle.characters.specs.References.{referenced}
+use Rattle.characters.proofs.Bodies.{reference_found}
 use Rattle.characters.proofs.unit.reference.Goals as goal
 
-pub returns-then-n-text : goal.returns-then-n-text
-unfolding reference_at
-returns-then-n-text c =
-    let bs = c.args.text.now in
-    let p : ltb (body_len bs) (length bs) ≡ false = le-ltb _ _ (omega arith) in
-    record { value = sym (simp p); within = tt }
+pub returns-in_err-end-clause-value : goal.returns-in_err-end-clause-value
+returns-in_err-end-clause-value c =
+    let found = position_from_yields_List (λ b. eqb b 59) _ _ _ c.position.ensures.ran (YieldsList-from_slice c.args.text.now (cc)) (λ x b q k. search (rules, tests)) in
+    c.from_residual.ensures ∙ sym (reference_found c.args.text.now None (search rules ∙ found))
 
-pub returns-in-Some : goal.returns-in-Some
-unfolding reference_at
-returns-in-Some c =
-    let bs = c.args.text.now in
-    let n = c.body_len-n.result in
-    let e : n - 0 ≡ body_len bs = omega arith in
-    let p : ltb (body_len bs) (length bs) ≡ true = lt-ltb _ _ (omega arith) in
-    let r : referenced (take (body_len bs) bs) ≡ Some c.in-Some.c = ap (λ k. referenced (take k bs)) (sym e) ∙ sym c.character_of.ensures ∙ c.in-Some.is in
-    let is : n ≡ body_len bs = c.body_len-n.ensures in
-    record { value = rw is (sym (simp (p, r))); within = omega arith }
+pub returns-in_err-c-clause-value : goal.returns-in_err-c-clause-value
+returns-in_err-c-clause-value c =
+    let found = position_from_yields_List (λ b. eqb b 59) _ _ _ c.position.ensures.ran (YieldsList-from_slice c.args.text.now (cc)) (λ x b q k. search (rules, tests)) in
+    let end = c.in_ok-end.end in
+    let none : referenced (take end c.args.text.now) ≡ None = sym c.character_of.ensures ∙ c.in_err-c.was in
+    c.from_residual-in_err-c.ensures ∙ sym (reference_found c.args.text.now (Some end) (search rules ∙ found) ∙ ap (option_map (λ c. (c, end + 1))) none)
 
-pub returns-in-None : goal.returns-in-None
-unfolding reference_at
-returns-in-None c =
-    let bs = c.args.text.now in
-    let n = c.body_len-n.result in
-    let e : n - 0 ≡ body_len bs = omega arith in
-    let p : ltb (body_len bs) (length bs) ≡ true = lt-ltb _ _ (omega arith) in
-    let r : referenced (take (body_len bs) bs) ≡ None = ap (λ k. referenced (take k bs)) (sym e) ∙ sym c.character_of.ensures ∙ c.in-None.is in
-    record { value = sym (simp (p, r)); within = tt }
+pub returns-clause-value : goal.returns-clause-value
+returns-clause-value c =
+    let found = position_from_yields_List (λ b. eqb b 59) _ _ _ c.position.ensures.ran (YieldsList-from_slice c.args.text.now (cc)) (λ x b q k. search (rules, tests)) in
+    let end = c.in_ok-end.end in
+    let some : referenced (take end c.args.text.now) ≡ Some c.in_ok-c.c = sym c.character_of.ensures ∙ c.in_ok-c.was in
+    sym (reference_found c.args.text.now (Some end) (search rules ∙ found) ∙ ap (option_map (λ c. (c, end + 1))) some)
