@@ -1,10 +1,11 @@
 -- Groups of sextets and of bytes: how long they are, and that packing and spelling undo one another.
-use Rattle.std.proofs.Common.{◌≡◌, ℕ, ◌+◌, ◌*◌, ◌/◌, ◌%◌, ◌^◌, ◌<◌, ◌≤◌, Bool, true, false, cond, ◌&&◌, eqb, leb, List, [], ◌∷◌, ◌++◌, map, length, get_or, take, drop, replicate, Decides, sym, refl, ap, ◌∙◌, subst, arith}
+use Rattle.std.proofs.Common.{◌≡◌, ℕ, ◌+◌, ◌*◌, ◌/◌, ◌%◌, ◌^◌, ◌<◌, ◌≤◌, Bool, true, false, cond, ◌&&◌, eqb, leb, List, [], ◌∷◌, ◌++◌, map, length, min, take, drop, replicate, Decides, sym, refl, ap, ◌∙◌, subst, ⊎_elim, arith}
 use Rattle.std.specs.List.{prefix_len, AllByRecursion}
 use Rattle.std.proofs.lemmas.List.{take-append-drop, length-append, length-map}
 use Rattle.std.proofs.lemmas.Bool.Decides.{nat_tests}
-use Rattle.std.proofs.lemmas.Bool.{eqb-true}
-use Rattle.base64_texts.proofs.Scan.{front_yes, front_no, sextets_letter, padding_letter}
+use Rattle.std.proofs.lemmas.Bool.{cases_Bool, eqb-true}
+use Rattle.texts.proofs.Fronts.{all_leading}
+use Rattle.base64_texts.proofs.Scan.{sextets_letter, padding_letter}
 use Rattle.base64_texts.specs.Base64.{is_letter, is_pad, sextet, letter, nonblank, letters, padding, sextets, last_or, packed, decoded, is_base64, base64_spelling, SpellsBytes}
 
 pub length-packed : (ss : List ℕ) → length (packed ss) ≡ length ss / 4 * 3 + length ss % 4 * 3 / 4
@@ -32,26 +33,15 @@ letter_is v h = grind (arith, nat_tests)
 pub sextet_below : (b : ℕ) → sextet b < 64
 sextet_below b = grind (arith, nat_tests)
 
-abbrev both : (b : Bool) (P : Type 0) → (b ≡ true → P) → (b ≡ false → P) → P
-both true P f g = f refl
-both false P f g = g refl
-
--- the front that passes passes
-all_front : (p : ℕ → Bool) (xs : List ℕ) → AllByRecursion (λ b. p b ≡ true) (take (prefix_len p xs) xs)
-all_front p [] = tt
-all_front p (x ∷ xs) =
-    both (p x) _
-    (λ e. subst (AllByRecursion (λ b. p b ≡ true)) (sym (front_yes p x xs e)) (e, all_front p xs))
-    (λ e. subst (AllByRecursion (λ b. p b ≡ true)) (sym (front_no p x xs e)) tt)
-
 pads_are : (ps : List ℕ) → prefix_len is_pad ps ≡ length ps → ps ≡ replicate (length ps) 61
 pads_are [] h = refl
 pads_are (p ∷ ps) h =
-    both (is_pad p) _
-    (λ e. let l : cond (is_pad p) (1 + prefix_len is_pad ps) 0 ≡ 1 + prefix_len is_pad ps = simp e in
+    ⊎_elim
+    (λ (e : is_pad p ≡ true). let l : cond (is_pad p) (1 + prefix_len is_pad ps) 0 ≡ 1 + prefix_len is_pad ps = simp e in
     let t = pads_are ps (omega arith) in
     λ i. eqb-true p 61 e i ∷ t i)
-    (λ e. absurd (let l : cond (is_pad p) (1 + prefix_len is_pad ps) 0 ≡ 0 = simp e in omega arith))
+    (λ (e : is_pad p ≡ false). absurd (let l : cond (is_pad p) (1 + prefix_len is_pad ps) 0 ≡ 0 = simp e in omega arith))
+    (cases_Bool (is_pad p))
 
 -- the bytes of a group give its sextets back
 byte_1 : (a b : ℕ) → b < 64 → (a * 4 + b / 16) / 4 ≡ a
@@ -113,15 +103,6 @@ respelt s (a ∷ b ∷ c ∷ d ∷ ls) ps all pads few whole zero' =
 abbrev pub test : ℕ → ℕ → ℕ → ℕ → Bool
 test lead pads long left = eqb lead pads && (leb pads 2 && (eqb (long % 4) 0 && eqb left 0))
 
-pub fails_pads : (lead pads long left : ℕ) → lead < pads → test lead pads long left ≡ false
-fails_pads lead pads long left h = grind (arith, nat_tests)
-
-pub fails_whole : (lead pads long left : ℕ) → (long % 4 ≡ 0 → ⊥) → test lead pads long left ≡ false
-fails_whole lead pads long left h = grind (arith, nat_tests)
-
-pub fails_end : (lead pads long left : ℕ) → (leb pads 2 && eqb left 0) ≡ false → test lead pads long left ≡ false
-fails_end lead pads long left h = grind (arith, nat_tests)
-
 pub passes : (lead pads long left : ℕ) → lead ≡ pads → long % 4 ≡ 0 → (leb pads 2 && eqb left 0) ≡ true → test lead pads long left ≡ true
 passes lead pads long left h k e = grind (arith, nat_tests)
 
@@ -135,7 +116,7 @@ canonical text h =
     let t = tested (prefix_len is_pad (padding text)) (length (padding text)) (length (nonblank text)) (last_or 0 (sextets text) % (4 ^ length (padding text))) h in
     let long = length-nonblank text in
     let letters-long = length-map (letters text) sextet in
-    respelt 0 (letters text) (padding text) (all_front is_letter (nonblank text)) t.0 t.1 (omega (arith, t.2, long, letters-long)) t.3
+    respelt 0 (letters text) (padding text) (all_leading is_letter (nonblank text)) t.0 t.1 (omega (arith, t.2, long, letters-long)) t.3
     ∙ take-append-drop n (nonblank text)
 
 pub length-spelling : (bs : List ℕ) → length (base64_spelling bs) ≡ (length bs + 2) / 3 * 4
@@ -144,23 +125,16 @@ length-spelling (a ∷ []) = refl
 length-spelling (a ∷ b ∷ []) = refl
 length-spelling (a ∷ b ∷ c ∷ bs) = let e = length-spelling bs in omega arith
 
--- the group at the front of some bytes, by their places
-pub spelling_three : (bs : List ℕ) → 3 ≤ length bs → base64_spelling bs ≡ letter (get_or bs 0 0 / 4) ∷ letter (get_or bs 0 0 % 4 * 16 + get_or bs 1 0 / 16) ∷ letter (get_or bs 1 0 % 16 * 4 + get_or bs 2 0 / 64) ∷ letter (get_or bs 2 0 % 64) ∷ base64_spelling (drop 3 bs)
-spelling_three [] h = absurd (omega arith)
-spelling_three (a ∷ []) h = absurd (omega arith)
-spelling_three (a ∷ b ∷ []) h = absurd (omega arith)
-spelling_three (a ∷ b ∷ c ∷ bs) h = refl
-
-pub spelling_two : (bs : List ℕ) → length bs ≡ 2 → base64_spelling bs ≡ letter (get_or bs 0 0 / 4) ∷ letter (get_or bs 0 0 % 4 * 16 + get_or bs 1 0 / 16) ∷ letter (get_or bs 1 0 % 16 * 4) ∷ 61 ∷ base64_spelling (drop 3 bs)
-spelling_two [] h = absurd (omega arith)
-spelling_two (a ∷ []) h = absurd (omega arith)
-spelling_two (a ∷ b ∷ []) h = refl
-spelling_two (a ∷ b ∷ c ∷ bs) h = absurd (omega arith)
-
-pub spelling_one : (bs : List ℕ) → length bs ≡ 1 → base64_spelling bs ≡ letter (get_or bs 0 0 / 4) ∷ letter (get_or bs 0 0 % 4 * 16) ∷ 61 ∷ 61 ∷ base64_spelling (drop 3 bs)
-spelling_one [] h = absurd (omega arith)
-spelling_one (a ∷ []) h = refl
-spelling_one (a ∷ b ∷ bs) h = absurd (omega arith)
+-- a group of three, or the last group, and then the others
+pub spelling_chunk : (group more : List ℕ) → length group ≡ min 3 (length (group ++ more)) → base64_spelling (group ++ more) ≡ base64_spelling group ++ base64_spelling more
+spelling_chunk [] [] h = refl
+spelling_chunk [] (m ∷ more) h = absurd (omega arith)
+spelling_chunk (a ∷ []) [] h = refl
+spelling_chunk (a ∷ []) (m ∷ more) h = absurd (omega arith)
+spelling_chunk (a ∷ b ∷ []) [] h = refl
+spelling_chunk (a ∷ b ∷ []) (m ∷ more) h = absurd (omega arith)
+spelling_chunk (a ∷ b ∷ c ∷ []) more h = refl
+spelling_chunk (a ∷ b ∷ c ∷ d ∷ group) more h = absurd (omega arith)
 
 -- a text that begins with the letter worth v
 sextets_of : (v : ℕ) (t : List ℕ) → v < 64 → sextets (letter v ∷ t) ≡ v ∷ sextets t
@@ -306,16 +280,3 @@ spells text = (
       let plain : nonblank (base64_spelling bs) ≡ base64_spelling bs = sym (canonical (base64_spelling bs) r.0) ∙ ap base64_spelling r.1 in
       ap test_of (p.2 ∙ sym plain) ∙ r.0,
 )
-
--- the bytes of a group, one at a time
-pub packed_first : (a b : ℕ) (ss : List ℕ) → packed (a ∷ b ∷ ss) ≡ (a * 4 + b / 16) ∷ drop 1 (packed (0 ∷ b ∷ ss))
-packed_first a b [] = refl
-packed_first a b (c ∷ []) = refl
-packed_first a b (c ∷ d ∷ ss) = refl
-
-pub packed_second : (b c : ℕ) (ss : List ℕ) → drop 1 (packed (0 ∷ b ∷ c ∷ ss)) ≡ (b % 16 * 16 + c / 4) ∷ drop 2 (packed (0 ∷ 0 ∷ c ∷ ss))
-packed_second b c [] = refl
-packed_second b c (d ∷ ss) = refl
-
-pub packed_third : (c d : ℕ) (ss : List ℕ) → drop 2 (packed (0 ∷ 0 ∷ c ∷ d ∷ ss)) ≡ (c % 4 * 64 + d) ∷ packed ss
-packed_third c d ss = refl

@@ -1,8 +1,9 @@
 -- A text read byte by byte: what one more byte in front does to its letters and its padding.
-use Rattle.std.proofs.Common.{◌≡◌, ℕ, ◌+◌, ◌<◌, ◌≤◌, Bool, true, false, cond, List, [], ◌∷◌, map, length, get_or, take, drop, sym, ap, ◌∙◌, one-add, arith}
+use Rattle.std.proofs.Common.{◌≡◌, ℕ, ◌+◌, ◌<◌, ◌≤◌, Bool, true, false, cond, List, [], ◌∷◌, map, length, get_or, take, drop, sym, refl, ap, ◌∙◌, ⊎_elim, one-add, arith}
 use Rattle.std.specs.List.{prefix_len}
 use Rattle.std.proofs.lemmas.Bool.Decides.{nat_tests}
-use Rattle.texts.specs.Bytes.{is_blank}
+use Rattle.std.proofs.lemmas.Bool.{cases_Bool}
+use Rattle.texts.specs.Bytes.{is_blank, after_blanks}
 use Rattle.std.proofs.lemmas.List.{drop_more, drop_all}
 use Rattle.base64_texts.specs.Base64.{is_letter, is_pad, sextet, nonblank, padding, sextets, last_or}
 
@@ -56,60 +57,46 @@ padding_letter b t h = ap rest_of (nonblank_keep b t (letter_shown b h)) ∙ res
 pub padding_stop : (b : ℕ) (t : List ℕ) → is_blank b ≡ false → is_letter b ≡ false → padding (b ∷ t) ≡ nonblank (b ∷ t)
 padding_stop b t h k = ap rest_of (nonblank_keep b t h) ∙ rest_no is_letter b (nonblank t) k ∙ sym (nonblank_keep b t h)
 
--- the same at a place of a text
-pub sextets_at_letter : (text : List ℕ) (e : ℕ) → e < length text → is_letter (get_or text e 0) ≡ true → sextets (drop e text) ≡ sextet (get_or text e 0) ∷ sextets (drop (e + 1) text)
-sextets_at_letter text e h is = ap sextets (drop_more text e 0 h) ∙ sextets_letter (get_or text e 0) (drop (e + 1) text) is
+-- blanks in front say nothing, and behind them stands no blank
+pub sextets_blanks : (t : List ℕ) → sextets (after_blanks t) ≡ sextets t
+sextets_blanks [] = refl
+sextets_blanks (b ∷ t) = ⊎_elim
+    (λ yes. ap sextets (rest_yes is_blank b t yes) ∙ sextets_blanks t ∙ sym (sextets_skip b t yes))
+    (λ other. ap sextets (rest_no is_blank b t other))
+    (cases_Bool (is_blank b))
 
-pub sextets_at_blank : (text : List ℕ) (e : ℕ) → e < length text → is_blank (get_or text e 0) ≡ true → sextets (drop e text) ≡ sextets (drop (e + 1) text)
-sextets_at_blank text e h is = ap sextets (drop_more text e 0 h) ∙ sextets_skip (get_or text e 0) (drop (e + 1) text) is
+pub blanks_end : (t : List ℕ) (b : ℕ) (bs : List ℕ) → after_blanks t ≡ b ∷ bs → is_blank b ≡ false
+blanks_end [] b bs e = let none : length (b ∷ bs) ≡ 0 = ap length (sym e) in absurd (omega arith)
+blanks_end (x ∷ t) b bs e = ⊎_elim
+    (λ yes. blanks_end t b bs (sym (rest_yes is_blank x t yes) ∙ e))
+    (λ other. let here : x ∷ t ≡ b ∷ bs = sym (rest_no is_blank x t other) ∙ e in let same : b ≡ x = cc in ap is_blank same ∙ other)
+    (cases_Bool (is_blank x))
 
-pub sextets_at_stop : (text : List ℕ) (e : ℕ) → e < length text → is_blank (get_or text e 0) ≡ false → is_letter (get_or text e 0) ≡ false → sextets (drop e text) ≡ []
-sextets_at_stop text e h shown other = ap sextets (drop_more text e 0 h) ∙ sextets_stop (get_or text e 0) (drop (e + 1) text) shown other
+-- the letter that comes next, behind blanks
+module _ (t : List ℕ) where
+  pub ahead_none : length (after_blanks t) ≡ 0 → sextets t ≡ []
+  ahead_none h = sym (sextets_blanks t) ∙ none (after_blanks t) h where
+    none : (bs : List ℕ) → length bs ≡ 0 → sextets bs ≡ []
+    none [] h = refl
+    none (b ∷ bs) h = absurd (omega arith)
 
-pub sextets_at_end : (text : List ℕ) (e : ℕ) → length text ≤ e → sextets (drop e text) ≡ []
-sextets_at_end text e h = ap sextets (drop_all e text h)
+  pub ahead_stop : (b : ℕ) (bs : List ℕ) → after_blanks t ≡ b ∷ bs → is_letter b ≡ false → sextets t ≡ []
+  ahead_stop b bs e other = sym (sextets_blanks t) ∙ ap sextets e ∙ sextets_stop b bs (blanks_end t b bs e) other
 
--- the first e bytes of a text are read: n letters, the last worth s
-abbrev pub Scanned : List ℕ → ℕ → ℕ → ℕ → Type 0
-Scanned text n s e =
-    (n ≤ e)
-    × (e ≤ length text)
-    × (n + length (sextets (drop e text)) ≡ length (sextets text))
-    × (last_or s (sextets (drop e text)) ≡ last_or 0 (sextets text))
-    × (padding (drop e text) ≡ padding text)
+  pub ahead_letter : (b : ℕ) (bs : List ℕ) → after_blanks t ≡ b ∷ bs → is_letter b ≡ true → sextets t ≡ sextet b ∷ sextets bs
+  ahead_letter b bs e is = sym (sextets_blanks t) ∙ ap sextets e ∙ sextets_letter b bs is
 
-pub scanned_letter : (text : List ℕ) (n s e : ℕ) → Scanned text n s e → e < length text → is_letter (get_or text e 0) ≡ true → Scanned text (n + 1) (sextet (get_or text e 0)) (e + 1)
-scanned_letter text n s e inv h is =
-    let S = sextets_at_letter text e h is in
-    let P : padding (drop e text) ≡ padding (drop (e + 1) text) = ap padding (drop_more text e 0 h) ∙ padding_letter (get_or text e 0) (drop (e + 1) text) is in
-    (omega arith, omega arith, omega (arith, ap length S), sym (ap (last_or s) S) ∙ inv.3, sym P ∙ inv.4)
+-- a text is read up to where the rest of it begins: n letters, the last worth s
+pub record Scanned (text : List ℕ) (n s : ℕ) (rest : List ℕ) : Type 0 where
+  pub few : n + length rest ≤ length text
+  pub count : n + length (sextets rest) ≡ length (sextets text)
+  pub last : last_or s (sextets rest) ≡ last_or 0 (sextets text)
+  pub padded : padding rest ≡ padding text
 
-pub scanned_blank : (text : List ℕ) (n s e : ℕ) → Scanned text n s e → e < length text → is_blank (get_or text e 0) ≡ true → Scanned text n s (e + 1)
-scanned_blank text n s e inv h is =
-    let S = sextets_at_blank text e h is in
-    let P : padding (drop e text) ≡ padding (drop (e + 1) text) = ap padding (drop_more text e 0 h) ∙ padding_skip (get_or text e 0) (drop (e + 1) text) is in
-    (omega arith, omega arith, omega (arith, ap length S), sym (ap (last_or s) S) ∙ inv.3, sym P ∙ inv.4)
-
--- the letters end at e
-pub record Ended (text : List ℕ) (n s e : ℕ) : Type 0 where
-  pub count : n ≡ length (sextets text)
-  pub last : s ≡ last_or 0 (sextets text)
-  pub rest : nonblank (drop e text) ≡ padding text
-  pub within : (n ≤ e) × (e ≤ length text)
-
-ended : (text : List ℕ) (n s e : ℕ) → Scanned text n s e → sextets (drop e text) ≡ [] → padding (drop e text) ≡ nonblank (drop e text) → Ended text n s e
-ended text n s e inv S P = record { count = omega (arith, ap length S); last = sym (ap (last_or s) S) ∙ inv.3; rest = sym P ∙ inv.4; within = (inv.0, inv.1) }
-
-pub scanned_stop : (text : List ℕ) (n s e : ℕ) → Scanned text n s e → e < length text → is_blank (get_or text e 0) ≡ false → is_letter (get_or text e 0) ≡ false → Ended text n s e
-scanned_stop text n s e inv h shown other =
-    let more = drop_more text e 0 h in
-    ended text n s e inv (sextets_at_stop text e h shown other)
-    (ap padding more ∙ padding_stop (get_or text e 0) (drop (e + 1) text) shown other ∙ sym (ap nonblank more))
-
-pub scanned_all : (text : List ℕ) (n s e : ℕ) → Scanned text n s e → length text ≤ e → Ended text n s e
-scanned_all text n s e inv h =
-    let none = drop_all e text h in
-    ended text n s e inv (sextets_at_end text e h) (ap padding none ∙ sym (ap nonblank none))
+pub scanned_letter : (text : List ℕ) (n s b : ℕ) (t : List ℕ) → Scanned text n s (b ∷ t) → is_letter b ≡ true → Scanned text (n + 1) (sextet b) t
+scanned_letter text n s b t so_far is =
+    let S = sextets_letter b t is in
+    record { few = omega (arith, so_far.few); count = omega (arith, so_far.count, ap length S); last = sym (ap (last_or s) S) ∙ so_far.last; padded = sym (padding_letter b t is) ∙ so_far.padded }
 
 -- what is left of a padding from place i on: how many `=`, and how long it is
 abbrev Ahead : List ℕ → ℕ → ℕ → ℕ → Type 0

@@ -13,7 +13,7 @@ goes_on (Two s) ss = drop 2 (packed (0 ∷ 0 ∷ s ∷ ss))
 
 -- the sextets that a cursor has not read
 abbrev pub ahead : Decoded → List ℕ
-ahead d = sextets (drop d.at d.text.now)
+ahead d = sextets d.rest.now
 
 -- the bytes that a cursor has still to give
 abbrev pub left : Decoded → List ℕ

@@ -1,16 +1,16 @@
 // The text of a <base64> element: checking, decoding byte by byte, and the canonical spelling.
 #![tactic(auto)]
 
-ghost use Rattle.std.specs.Prelude.{◌≡◌, ◌%◌, ◌^◌, ◌<◌, ◌≤◌, true, false, ◌&&◌, [], ◌∷◌, ◌++◌, length, drop, Decides, MatchOption, MatchResult, ◌==◌, nat_le, slice_index};
+ghost use Rattle.std.specs.Prelude.{◌≡◌, ◌+◌, ◌%◌, ◌^◌, ◌<◌, ◌≤◌, true, false, ◌&&◌, [], ◌∷◌, ◌++◌, length, drop, Decides, MatchOption, MatchResult, ◌==◌, nat_le, slice_index};
 ghost use Rattle.std.specs.List.{prefix_len};
 ghost use Rattle.texts.specs.Bytes.{is_blank};
 ghost use Rattle.texts.specs.Pages.{Writes};
 ghost use Rattle.base64_texts.specs.Base64.{is_letter, is_pad, sextet, letter as letterOf, nonblank, sextets, padding, last_or, decoded, is_base64, base64_spelling, SpellsBytes};
 ghost use Rattle.base64_texts.specs.Cursor.{ahead, left as bytesLeft};
-ghost use Rattle.std.specs.Iterator.{at_most};
+ghost use Rattle.std.specs.Iterator.{YieldsFirst, item_count};
 
 use texts::Malformed;
-use texts::bytes::{Blank, Class};
+use texts::bytes::{Blank, Class, leading_of};
 
 fn is_letter(byte: u8) -> bool
     ensures { result ≡ is_letter byte }
@@ -35,11 +35,7 @@ fn worth(letter: u8) -> u8
 fn sextet_of(byte: u8) -> Option<u8>
     ensures { MatchOption result (is_letter byte ≡ false) (λ s. (is_letter byte ≡ true) × (s ≡ sextet byte)) }
 {
-    if is_letter(byte) {
-        Some(worth(byte))
-    } else {
-        None
-    }
+    is_letter(byte).then(|| worth(byte))
 }
 
 // The letter worth `value`.
@@ -56,37 +52,36 @@ fn letter(value: u8) -> u8
     }
 }
 
-// The letters at the front of a text: how many, what the last is worth, and where they end.
+// The letters at the front of a text, blanks aside: how many, what the last is worth, and what stands behind them.
 #[derive(Drop)]
-struct Front {
+struct Front<'a> {
     count: usize,
     last: u8,
-    end: usize,
+    rest: &'a [u8],
 }
 
-fn front_of(text: &[u8]) -> Front
+fn front_of(text: &[u8]) -> Front<'_>
     ensures count { result.count ≡ length (sextets text.now) }
     ensures last { result.last ≡ last_or 0 (sextets text.now) }
-    ensures rest { nonblank (drop result.end text.now) ≡ padding text.now }
-    ensures within { (result.count ≤ result.end) × (result.end ≤ length text.now) }
+    ensures rest { nonblank result.rest.now ≡ padding text.now }
+    ensures within { result.count + length result.rest.now ≤ length text.now }
 {
     let mut count = 0;
     let mut last = b'A';
-    let mut end = 0;
-    while end < text.len() {
-        let byte = text[end];
-        if is_letter(byte) {
+    let mut rest = text;
+    while let Some((byte, behind)) = rest.split_first() {
+        if is_letter(*byte) {
             count += 1;
-            last = byte;
-        } else if !Blank::has(byte) {
+            last = *byte;
+        } else if !Blank::has(*byte) {
             break;
         }
-        end += 1;
+        rest = behind;
     }
     Front {
         count,
         last: worth(last),
-        end,
+        rest,
     }
 }
 
@@ -123,10 +118,8 @@ pub fn check_base64(text: &[u8]) -> Result<usize, Malformed>
     ensures spells { Decides (is_base64 text.now) (SpellsBytes text.now) }
     ensures canonical { is_base64 text.now ≡ true → base64_spelling (decoded text.now) ≡ nonblank text.now }
 {
-    let Front { count, last, end } = front_of(text);
-    let Some(pads) = pads_of(&text[end..text.len()]) else {
-        return Err(Malformed);
-    };
+    let Front { count, last, rest } = front_of(text);
+    let pads = pads_of(rest).ok_or(Malformed)?;
     if (count + pads) % 4 != 0 || !ends_well(last, pads) {
         return Err(Malformed);
     }
@@ -144,21 +137,8 @@ enum Held {
 // Gives the bytes that a text stands for, one after another, up to the first byte that is neither letter nor blank.
 #[derive(Drop)]
 pub struct Decoded<'a> {
-    text: &'a [u8],
-    at: usize,
+    rest: &'a [u8],
     held: Held,
-}
-
-// Where the next byte that is no blank stands.
-fn skip_blanks(text: &[u8], from: usize) -> usize
-    ensures same { sextets (drop result text.now) ≡ sextets (drop from text.now) }
-    ensures shown { result < length text.now → is_blank (slice_index text.now result) ≡ false }
-{
-    let mut at = from;
-    while at < text.len() && Blank::has(text[at]) {
-        at += 1;
-    }
-    at
 }
 
 impl<'a> Decoded<'a> {
@@ -166,8 +146,7 @@ impl<'a> Decoded<'a> {
         ensures { bytesLeft result ≡ decoded text.now }
     {
         Decoded {
-            text,
-            at: 0,
+            rest: text,
             held: Held::Nothing,
         }
     }
@@ -177,14 +156,10 @@ impl<'a> Decoded<'a> {
         ensures sextets { MatchOption result ((ahead self.old ≡ []) × (ahead self.new ≡ [])) (λ s. (s < 64) × (ahead self.old ≡ s ∷ ahead self.new)) }
         ensures held { self.new.held ≡ self.old.held }
     {
-        let text = self.text;
-        let at = skip_blanks(text, self.at);
-        self.at = at;
-        if at >= text.len() {
-            return None;
-        }
-        let value = sextet_of(text[at])?;
-        self.at = at + 1;
+        let blanks = leading_of::<Blank>(self.rest);
+        let (letter, behind) = self.rest[blanks..].split_first()?;
+        let value = sextet_of(*letter)?;
+        self.rest = behind;
         Some(value)
     }
 }
@@ -192,9 +167,9 @@ impl<'a> Decoded<'a> {
 impl<'a> Iterator for Decoded<'a> {
     type Item = u8;
 
-    ghost next_gives = { λ before r after. MatchOption r ((bytesLeft before ≡ []) × (bytesLeft after ≡ [])) (λ b. bytesLeft before ≡ b ∷ bytesLeft after) };
+    ghost next_gives = { YieldsFirst bytesLeft };
 
-    ghost remaining = { λ d. at_most (length (bytesLeft d)) };
+    ghost remaining = { item_count bytesLeft };
 
     fn next(&mut self) -> Option<u8> {
         let value = self.next_sextet()?;
@@ -223,13 +198,13 @@ pub fn base64_len(bytes: &[u8]) -> usize
     bytes.len().div_ceil(3) * 4
 }
 
-// The four characters that stand for the first three bytes, or for the last one or two.
-fn quad(bytes: &[u8]) -> [u8; 4]
-    requires { 0 < length bytes.now }
-    ensures { base64_spelling bytes.now ≡ result ++ base64_spelling (drop 3 bytes.now) }
+// The four characters that stand for one to three bytes.
+fn quad(group: &[u8]) -> [u8; 4]
+    requires { (0 < length group.now) × (length group.now ≤ 3) }
+    ensures { result ≡ base64_spelling group.now }
 {
-    match bytes {
-        [a, b, c, ..] => [
+    match group {
+        [a, b, c] => [
             letter(*a / 4),
             letter(*a % 4 * 16 + *b / 16),
             letter(*b % 16 * 4 + *c / 64),
@@ -242,7 +217,7 @@ fn quad(bytes: &[u8]) -> [u8; 4]
             b'=',
         ],
         [a] => [letter(*a / 4), letter(*a % 4 * 16), b'=', b'='],
-        [] => unreachable(),
+        _ => unreachable(),
     }
 }
 
@@ -251,12 +226,10 @@ fn spell(bytes: &[u8], page: &mut [u8])
     requires { length (base64_spelling bytes.now) ≤ length page.old }
     ensures { page.new ≡ base64_spelling bytes.now ++ drop (length (base64_spelling bytes.now)) page.old }
 {
-    let mut from = 0;
+    // A place that is counted along, since nothing is known of what is written through `chunks_exact_mut`.
     let mut to = 0;
-    while from < bytes.len() {
-        let group = quad(&bytes[from..bytes.len()]);
-        page[to..to + 4].copy_from_slice(&group);
-        from += 3;
+    for group in bytes.chunks(3) {
+        page[to..to + 4].copy_from_slice(&quad(group));
         to += 4;
     }
 }
