@@ -1,4 +1,4 @@
-// How the two makes of held messages tell their rows and texts.
+// How the two makes of held messages tell their rows and texts: each method is one call of what the two share.
 ghost use Rattle.std.specs.Prelude.{◌≡◌, ℕ, ◌+◌, ◌^◌, ◌<◌, List, [], OnSome, slice_index_or};
 ghost use Rattle.held.specs.Stored.{stored_at, said_by, sayings};
 ghost use Rattle.held.specs.Texts.{left};
@@ -44,15 +44,17 @@ fn text_of<'a>(message: &'a [u8], ink: &'a [u8], row: Row) -> Text<'a>
     }
 }
 
-// A row but for its text.
-fn facts(row: Row) -> Facts
-    ensures { (msg ink : List ℕ) → result ≡ facts_of (said_by msg ink row) }
-{
-    Facts {
-        kind: row.kind,
-        count: row.count,
-        number: row.number,
-        scale: row.scale,
+impl From<Row> for Facts {
+    ghost from_gives = { λ row facts. (msg ink : List ℕ) → facts ≡ facts_of (said_by msg ink row) };
+
+    // A row but for its text.
+    fn from(row: Row) -> Facts {
+        Facts {
+            kind: row.kind,
+            count: row.count,
+            number: row.number,
+            scale: row.scale,
+        }
     }
 }
 
@@ -61,20 +63,18 @@ fn row_at(rows: &[Row], i: usize) -> Option<Facts>
     ensures told { (msg ink : List ℕ) → TellsRow (sayings msg ink rows.now) i result }
     ensures next { OnSome result (i + 1 < 2 ^ 64) }
 {
-    if i >= rows.len() {
-        return None;
-    }
-    Some(facts(rows[i]))
+    let row = rows.get(i)?;
+    Some(Facts::from(*row))
 }
 
 // The text of the row at an index, empty past the last.
 fn text_at<'a>(message: &'a [u8], ink: &'a [u8], rows: &[Row], i: usize) -> Text<'a>
     ensures { left result ≡ (slice_index_or (sayings message.now ink.now rows.now) i no_row).text }
 {
-    if i >= rows.len() {
-        return Text::plain(&message[0..0]);
+    match rows.get(i) {
+        Some(row) => text_of(message, ink, *row),
+        None => Text::plain(b""),
     }
-    text_of(message, ink, rows[i])
 }
 
 impl<'b, 'r> Held for ReadMessage<'b, 'r> {
@@ -91,8 +91,7 @@ impl<'b, 'r> Held for ReadMessage<'b, 'r> {
     }
 
     fn text(&self, i: usize) -> Text<'_> {
-        let bytes = self.bytes;
-        text_at(bytes, &bytes[0..0], self.rows, i)
+        text_at(self.bytes, b"", self.rows, i)
     }
 }
 
@@ -110,7 +109,6 @@ impl<'i, 'r> Held for Composed<'i, 'r> {
     }
 
     fn text(&self, i: usize) -> Text<'_> {
-        let ink = self.ink;
-        text_at(&ink[0..0], ink, self.rows, i)
+        text_at(b"", self.ink, self.rows, i)
     }
 }

@@ -1,35 +1,16 @@
 // The text of a row, byte by byte as it is read.
-ghost use Rattle.std.specs.Prelude.{◌≡◌, [], ◌∷◌, length, MatchOption};
+ghost use Rattle.std.specs.Prelude.{◌≡◌};
 ghost use Rattle.held.specs.Texts.{left as toCome};
-ghost use Rattle.std.specs.Iterator.{at_most};
+ghost use Rattle.std.specs.Iterator.{YieldsFirst, item_count};
 
 use base64_texts::Decoded;
 use characters::Characters;
-
-// Bytes that stand for themselves.
-#[derive(Drop)]
-pub struct Plain<'a> {
-    bytes: &'a [u8],
-}
-
-impl<'a> Plain<'a> {
-    // The next byte.
-    fn next_byte(&mut self) -> Option<u8>
-        ensures { MatchOption result ((self.old.bytes.now ≡ []) × (self.new.bytes.now ≡ [])) (λ b. self.old.bytes.now ≡ b ∷ self.new.bytes.now) }
-    {
-        let bytes = self.bytes;
-        if bytes.len() == 0 {
-            return None;
-        }
-        self.bytes = &bytes[1..bytes.len()];
-        Some(bytes[0])
-    }
-}
+use std::slice::Iter;
 
 // A text as it is stored, and how it is read: as it stands, with references, or as base64.
 #[derive(Drop)]
 pub enum Text<'a> {
-    Plain(Plain<'a>),
+    Plain(Iter<'a, u8>),
     Characters(Characters<'a>),
     Base64(Decoded<'a>),
 }
@@ -39,21 +20,21 @@ impl<'a> Text<'a> {
     pub fn plain(bytes: &'a [u8]) -> Text<'a>
         ensures { toCome result ≡ bytes.now }
     {
-        Text::Plain(Plain { bytes })
+        Text::Plain(bytes.iter())
     }
 }
 
 impl<'a> Iterator for Text<'a> {
     type Item = u8;
 
-    ghost next_gives = { λ before r after. MatchOption r ((toCome before ≡ []) × (toCome after ≡ [])) (λ b. toCome before ≡ b ∷ toCome after) };
+    ghost next_gives = { YieldsFirst toCome };
 
-    ghost remaining = { λ text. at_most (length (toCome text)) };
+    ghost remaining = { item_count toCome };
 
     // The next byte of the text.
     fn next(&mut self) -> Option<u8> {
         match self {
-            Text::Plain(text) => text.next_byte(),
+            Text::Plain(text) => text.next().copied(),
             Text::Characters(text) => text.next(),
             Text::Base64(text) => text.next(),
         }
