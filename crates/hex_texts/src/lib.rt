@@ -1,37 +1,24 @@
 // Bytes in lower-case hexadecimal.
 #![tactic(auto)]
 
-ghost use Rattle.std.specs.Prelude.{◌≡◌, ◌<◌, Some};
+ghost use Rattle.std.specs.Prelude.{Some};
 ghost use Rattle.std.specs.Fmt.{WritesOnOk};
-ghost use Rattle.hex_texts.specs.Hex.{hex_digit, hex_byte, hex_text};
+ghost use Rattle.hex_texts.specs.Hex.{hex_byte, hex_text};
 
 use std::fmt;
-
-// The digit worth `value`.
-fn digit(value: u8) -> u8
-    requires { value < 16 }
-    ensures { result ≡ hex_digit value }
-{
-    if value < 10 {
-        b'0' + value
-    } else {
-        b'a' + (value - 10)
-    }
-}
 
 // Writes the two digits of a byte.
 pub fn write_byte<W: fmt::Write>(byte: u8, f: &mut fmt::Formatter<W>) -> fmt::Result
     ensures { WritesOnOk W.write_str_gives f.old result (hex_byte byte) f.new }
 {
-    f.write_char(char::from(digit(byte / 16)))?;
-    f.write_char(char::from(digit(byte % 16)))
+    write!(f, "{byte:02x}")
 }
 
 // Bytes that are shown in hexadecimal, `-` for none.
 #[derive(Clone, Copy)]
 pub struct Hex<'a>(pub &'a [u8]);
 
-impl<'a> fmt::Display for Hex<'a> {
+impl fmt::Display for Hex<'_> {
     ghost output = { λ hex. Some (hex_text hex.0.now) };
 
     fn fmt<W: fmt::Write>(&self, f: &mut fmt::Formatter<W>) -> fmt::Result {
