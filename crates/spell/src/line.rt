@@ -1,10 +1,13 @@
 // A line of input: a kind of text and the text's bytes.
-ghost use Rattle.std.specs.Prelude.{◌≡◌, ℕ, ◌+◌, ◌-◌, ◌<◌, ◌≤◌, length, MatchOption, ◌≢◌, slice_index};
+ghost use Rattle.std.specs.Prelude.{◌≡◌, MatchResult, ◌≢◌};
 ghost use Rattle.spell.specs.Lines.{word};
 ghost use Rattle.spell.specs.declared.line.TextKind.{TextKind as SomeKind};
 
 use crate::hex::decode;
-use std::alloc::{AllocError, Global};
+use crate::reading::{Reading, read_text};
+use crate::unread::Unread;
+use std::alloc::Global;
+use std::str::FromStr;
 
 #[derive(Clone, Copy)]
 pub enum TextKind {
@@ -18,48 +21,30 @@ pub enum TextKind {
 }
 
 // The kind that a word names.
-pub(crate) fn kind_of(name: &str) -> Option<TextKind>
-    ensures { MatchOption result ((k : SomeKind) → name.now ≢ word k) (λ k. name.now ≡ word k) }
-{
-    match name {
-        "method" => Some(TextKind::Method),
-        "int" => Some(TextKind::Int),
-        "boolean" => Some(TextKind::Boolean),
-        "double" => Some(TextKind::Double),
-        "date" => Some(TextKind::Date),
-        "base64" => Some(TextKind::Base64),
-        "string" => Some(TextKind::String),
-        _ => None,
+impl FromStr for TextKind {
+    type Err = Unread;
+
+    ghost from_str_gives = { λ name r. MatchResult r (λ k. name ≡ word k) (λ _. (k : SomeKind) → name ≢ word k) };
+
+    fn from_str(name: &str) -> Result<TextKind, Unread> {
+        match name {
+            "method" => Ok(TextKind::Method),
+            "int" => Ok(TextKind::Int),
+            "boolean" => Ok(TextKind::Boolean),
+            "double" => Ok(TextKind::Double),
+            "date" => Ok(TextKind::Date),
+            "base64" => Ok(TextKind::Base64),
+            "string" => Ok(TextKind::String),
+            _ => Err(Unread::BadLine),
+        }
     }
 }
 
-// Where the line that holds `at` ends: at its line feed or at the end of the input.
-pub(crate) fn end_of_line(bytes: &[u8], at: usize) -> usize
-    requires { at ≤ length bytes.now }
-    ensures within { (at ≤ result) × (result ≤ length bytes.now) }
-    ensures line { (k : ℕ) → at ≤ k → k < result → slice_index bytes.now k ≢ 10 }
-    ensures end { result < length bytes.now → slice_index bytes.now result ≡ 10 }
-{
-    let mut end = at;
-    while end < bytes.len() && bytes[end] != b'\n' {
-        end += 1;
-    }
-    end
-}
-
-// What a line asks for; nothing where it has another shape.
-pub(crate) fn parse(heap: Global, line: &[u8]) -> Result<Option<(TextKind, Vec<u8>)>, AllocError> {
-    let Ok(text) = std::str::from_utf8(line) else {
-        return Ok(None);
-    };
-    let Some((name, hex)) = text.split_once(' ') else {
-        return Ok(None);
-    };
-    let Some(kind) = kind_of(name) else {
-        return Ok(None);
-    };
-    match decode(heap, hex.as_bytes())? {
-        Some(bytes) => Ok(Some((kind, bytes))),
-        None => Ok(None),
-    }
+// Reads the text that a line holds as the kind that it names.
+pub(crate) fn read_line(heap: Global, line: &[u8]) -> Result<Reading, Unread> {
+    let line = std::str::from_utf8(line).map_err(|_| Unread::BadLine)?;
+    let (name, hex) = line.split_once(' ').ok_or(Unread::BadLine)?;
+    let kind = name.parse()?;
+    let text = decode(heap, hex.as_bytes())?;
+    read_text(heap, kind, text.as_slice())
 }

@@ -1,32 +1,68 @@
 // What a text reads as, and its canonical spelling.
 use crate::line::TextKind;
+use crate::unread::Unread;
 use base64_texts::{Decoded, base64_len, check_base64, write_base64};
-use characters::{BadCharacters, Characters, characters_len, check_characters, write_characters};
+use characters::{Characters, characters_len, check_characters, write_characters};
 use dates::text::{date_len, read_date, write_date};
+use hex_texts::Hex;
 use numbers::doubles::{double_len, read_double, write_double};
 use numbers::ints::{int_len, read_int, write_int};
 use std::alloc::{AllocError, Global};
+use std::fmt;
 use texts::booleans::{boolean_len, read_boolean, write_boolean};
 use texts::methods::read_method_name;
 use texts::pages::write_text;
 
 #[derive(Drop)]
 pub struct Reading {
-    pub number: i64,
-    pub scale: u8,
-    pub text: Vec<u8>,
-    pub written: Vec<u8>,
+    number: i64,
+    scale: u8,
+    text: Vec<u8>,
+    written: Vec<u8>,
 }
 
-#[derive(Drop)]
-pub enum Outcome {
-    Read(Reading),
-    Refused,
-    BadReference(usize),
+impl fmt::Display for Reading {
+    fn fmt<W: fmt::Write>(&self, f: &mut fmt::Formatter<W>) -> fmt::Result {
+        let (number, scale) = (self.number, self.scale);
+        let text = Hex(self.text.as_slice());
+        let written = Hex(self.written.as_slice());
+        write!(f, "ok {number} {scale} {text} {written}")
+    }
+}
+
+// A page of a length, with what is written on it.
+fn page_with<F: FnOnce(&mut [u8]) -> Option<usize>>(
+    heap: Global,
+    len: usize,
+    write: F,
+) -> Result<Vec<u8>, AllocError>
+    requires { F.IsAlwaysCallable write }
+{
+    let mut page = vec![in heap; 0u8; len]?;
+    let _ = write(page.as_mut_slice());
+    Ok(page)
+}
+
+fn number_reading(heap: Global, number: i64, scale: u8, written: Vec<u8>) -> Reading {
+    Reading {
+        number,
+        scale,
+        text: Vec::new(heap),
+        written,
+    }
+}
+
+fn text_reading(text: Vec<u8>, written: Vec<u8>) -> Reading {
+    Reading {
+        number: 0,
+        scale: 0,
+        text,
+        written,
+    }
 }
 
 // Reads a text of a kind and writes it again.
-pub(crate) fn read_text(heap: Global, kind: TextKind, text: &[u8]) -> Result<Outcome, AllocError> {
+pub(crate) fn read_text(heap: Global, kind: TextKind, text: &[u8]) -> Result<Reading, Unread> {
     match kind {
         TextKind::Method => method(heap, text),
         TextKind::Int => int(heap, text),
@@ -38,107 +74,50 @@ pub(crate) fn read_text(heap: Global, kind: TextKind, text: &[u8]) -> Result<Out
     }
 }
 
-fn method(heap: Global, text: &[u8]) -> Result<Outcome, AllocError> {
-    let Ok(name) = read_method_name(text) else {
-        return Ok(Outcome::Refused);
-    };
-    let mut written = vec![in heap; 0u8; name.len()]?;
-    let _ = write_text(name, written.as_mut_slice());
-    let text = name.to_vec(heap)?;
-    Ok(Outcome::Read(Reading {
-        number: 0,
-        scale: 0,
-        text,
-        written,
-    }))
+fn method(heap: Global, text: &[u8]) -> Result<Reading, Unread> {
+    let name = read_method_name(text)?;
+    let written = page_with(heap, name.len(), |page| write_text(name, page))?;
+    Ok(text_reading(name.to_vec(heap)?, written))
 }
 
-fn int(heap: Global, text: &[u8]) -> Result<Outcome, AllocError> {
-    let Ok(number) = read_int(text) else {
-        return Ok(Outcome::Refused);
-    };
-    let number = i64::from(number);
-    let mut written = vec![in heap; 0u8; int_len(number)]?;
-    let _ = write_int(number, written.as_mut_slice());
-    Ok(Outcome::Read(Reading {
-        number,
-        scale: 0,
-        text: Vec::new(heap),
-        written,
-    }))
+fn int(heap: Global, text: &[u8]) -> Result<Reading, Unread> {
+    let number = i64::from(read_int(text)?);
+    let written = page_with(heap, int_len(number), |page| write_int(number, page))?;
+    Ok(number_reading(heap, number, 0, written))
 }
 
-fn boolean(heap: Global, text: &[u8]) -> Result<Outcome, AllocError> {
-    let Ok(value) = read_boolean(text) else {
-        return Ok(Outcome::Refused);
-    };
-    let mut written = vec![in heap; 0u8; boolean_len()]?;
-    let _ = write_boolean(value, written.as_mut_slice());
-    Ok(Outcome::Read(Reading {
-        number: i64::from(value),
-        scale: 0,
-        text: Vec::new(heap),
-        written,
-    }))
+fn boolean(heap: Global, text: &[u8]) -> Result<Reading, Unread> {
+    let value = read_boolean(text)?;
+    let written = page_with(heap, boolean_len(), |page| write_boolean(value, page))?;
+    Ok(number_reading(heap, i64::from(value), 0, written))
 }
 
-fn double(heap: Global, text: &[u8]) -> Result<Outcome, AllocError> {
-    let Ok((number, scale)) = read_double(text) else {
-        return Ok(Outcome::Refused);
-    };
-    let mut written = vec![in heap; 0u8; double_len(number, scale)]?;
-    let _ = write_double(number, scale, written.as_mut_slice());
-    Ok(Outcome::Read(Reading {
-        number,
-        scale,
-        text: Vec::new(heap),
-        written,
-    }))
+fn double(heap: Global, text: &[u8]) -> Result<Reading, Unread> {
+    let (number, scale) = read_double(text)?;
+    let len = double_len(number, scale);
+    let written = page_with(heap, len, |page| write_double(number, scale, page))?;
+    Ok(number_reading(heap, number, scale, written))
 }
 
-fn date(heap: Global, text: &[u8]) -> Result<Outcome, AllocError> {
-    let Ok(date) = read_date(text) else {
-        return Ok(Outcome::Refused);
-    };
-    let mut written = vec![in heap; 0u8; date_len()]?;
-    let _ = write_date(&date, written.as_mut_slice());
-    let text = date.text().to_vec(heap)?;
-    Ok(Outcome::Read(Reading {
-        number: 0,
-        scale: 0,
-        text,
-        written,
-    }))
+fn date(heap: Global, text: &[u8]) -> Result<Reading, Unread> {
+    let date = read_date(text)?;
+    let written = page_with(heap, date_len(), |page| write_date(&date, page))?;
+    Ok(text_reading(date.text().to_vec(heap)?, written))
 }
 
-fn base64(heap: Global, text: &[u8]) -> Result<Outcome, AllocError> {
-    if check_base64(text).is_err() {
-        return Ok(Outcome::Refused);
-    }
+fn base64(heap: Global, text: &[u8]) -> Result<Reading, Unread> {
+    let _ = check_base64(text)?;
     let text: Vec<u8> = Decoded::new(text).collect(heap)?;
-    let mut written = vec![in heap; 0u8; base64_len(text.as_slice())]?;
-    let _ = write_base64(text.as_slice(), written.as_mut_slice());
-    Ok(Outcome::Read(Reading {
-        number: 0,
-        scale: 0,
-        text,
-        written,
-    }))
+    let bytes = text.as_slice();
+    let written = page_with(heap, base64_len(bytes), |page| write_base64(bytes, page))?;
+    Ok(text_reading(text, written))
 }
 
-fn string(heap: Global, text: &[u8]) -> Result<Outcome, AllocError> {
-    match check_characters(text) {
-        Err(BadCharacters::Reference(at)) => return Ok(Outcome::BadReference(at)),
-        Err(BadCharacters::Byte) => return Ok(Outcome::Refused),
-        Ok(_) => {}
-    }
+fn string(heap: Global, text: &[u8]) -> Result<Reading, Unread> {
+    let _ = check_characters(text)?;
     let text: Vec<u8> = Characters::new(text).collect(heap)?;
-    let mut written = vec![in heap; 0u8; characters_len(text.as_slice()).unwrap_or(0)]?;
-    let _ = write_characters(text.as_slice(), written.as_mut_slice());
-    Ok(Outcome::Read(Reading {
-        number: 0,
-        scale: 0,
-        text,
-        written,
-    }))
+    let plain = text.as_slice();
+    let len = characters_len(plain).unwrap_or(0);
+    let written = page_with(heap, len, |page| write_characters(plain, page))?;
+    Ok(text_reading(text, written))
 }
