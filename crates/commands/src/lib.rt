@@ -4,4 +4,4 @@
 mod command;
 mod numbers;
 
-pub use command::Command;
+pub use command::{Command, UnknownCommand};

@@ -16,12 +16,10 @@ pub(crate) fn behind<'a>(text: &'a [u8], front: &[u8]) -> Option<&'a [u8]>
 fn capped_worth(digits: &[u8]) -> usize
     ensures { result ≡ capped (worth digits.now) }
 {
-    let mut number = 0usize;
-    for digit in digits {
+    digits.iter().fold(0usize, |number, digit| {
         let more = usize::from(digit.saturating_sub(b'0'));
-        number = number.saturating_mul(10).saturating_add(more);
-    }
-    number
+        number.saturating_mul(10).saturating_add(more)
+    })
 }
 
 // The first of the numbers that a text is, and the text of the others.
@@ -29,12 +27,11 @@ fn next_number(text: &[u8]) -> Option<(usize, &[u8])>
     ensures { MatchOption result ((n : ℕ) (ns : List ℕ) → Spaced text.now (n ∷ ns) → ⊥) (λ p. ((ns : List ℕ) → Spaced p.1.now ns → Spaced text.now (p.0 ∷ ns)) × ((n : ℕ) (ns : List ℕ) → Spaced text.now (n ∷ ns) → (p.0 ≡ n) × Spaced p.1.now ns)) }
 {
     let rest = behind(text, b" ")?;
-    let digits = leading_of::<Digit>(rest);
-    if digits == 0 {
+    let (digits, others) = rest.split_at(leading_of::<Digit>(rest));
+    if digits.is_empty() {
         return None;
     }
-    let number = capped_worth(&rest[0..digits]);
-    Some((number, &rest[digits..rest.len()]))
+    Some((capped_worth(digits), others))
 }
 
 // The two numbers that a text is.
@@ -43,9 +40,5 @@ pub(crate) fn two_numbers(text: &[u8]) -> Option<(usize, usize)>
 {
     let (first, rest) = next_number(text)?;
     let (second, rest) = next_number(rest)?;
-    if rest.is_empty() {
-        Some((first, second))
-    } else {
-        None
-    }
+    rest.is_empty().then_some((first, second))
 }
