@@ -13,7 +13,7 @@ pub const LONGEST: usize = 65_536;
 pub fn admit(level: usize, length: usize) -> Result<Level, Refusal>
     ensures { Admits level length result }
 {
-    let level = Level::from_number(level)?;
+    let level = Level::try_from(level)?;
     if length > LONGEST {
         return Err(Refusal::MessageTooLong);
     }
