@@ -58,7 +58,7 @@ impl fmt::Display for RefusalCount {
 
     fn fmt<W: fmt::Write>(&self, f: &mut fmt::Formatter<W>) -> fmt::Result {
         if self.count == 0 {
-            return f.write_str("");
+            return Ok(());
         }
         let (number, count) = (self.number, self.count);
         write!(f, ", {count} refused by {number}")
@@ -69,15 +69,13 @@ impl fmt::Display for RefusalCount {
 #[derive(Clone, Copy)]
 struct RefusalCounts<'a>(&'a [u64]);
 
-impl<'a> fmt::Display for RefusalCounts<'a> {
+impl fmt::Display for RefusalCounts<'_> {
     ghost output = { λ counts. Some (refusal_counts 1 counts.0.now) };
 
     fn fmt<W: fmt::Write>(&self, f: &mut fmt::Formatter<W>) -> fmt::Result {
-        let mut number = 1;
-        for count in self.0 {
-            let count = *count;
+        for (place, count) in self.0.iter().enumerate() {
+            let (number, count) = (place + 1, *count);
             f.write(RefusalCount { number, count })?;
-            number += 1;
         }
         Ok(())
     }
