@@ -1,8 +1,9 @@
 // Bytes in lower-case hexadecimal.
 #![tactic(auto)]
 
-ghost use Rattle.std.specs.Prelude.{Some};
-ghost use Rattle.std.specs.Fmt.{WritesOnOk};
+ghost use Rattle.std.specs.Prelude.{ℕ, List, IsOk, Some};
+ghost use Rattle.std.specs.Fmt.{WritesOnOk, IsPlainFormatter, HasWritten};
+ghost use Rattle.std.specs.Iterator.{IsFinite, Drains};
 ghost use Rattle.hex_texts.specs.Hex.{hex_byte, hex_text};
 
 use std::fmt;
@@ -14,6 +15,26 @@ pub fn write_byte<W: fmt::Write>(byte: u8, f: &mut fmt::Formatter<W>) -> fmt::Re
     write!(f, "{byte:02x}")
 }
 
+// Writes the digits of bytes as an iterator gives them, `-` where it gives none.
+pub fn write_bytes<I: Iterator<Item = u8> + Drop, W: fmt::Write>(
+    bytes: I,
+    f: &mut fmt::Formatter<W>,
+) -> fmt::Result
+    requires can { I.can_next bytes }
+    requires ends { IsFinite (I.remaining bytes) }
+    ensures { IsPlainFormatter f.old → IsOk result → (all : List ℕ) × Drains I.next_gives bytes all × HasWritten W.write_str_gives f.old (hex_text all) f.new }
+{
+    let mut bytes = bytes;
+    let Some(first) = bytes.next() else {
+        return f.write_str("-");
+    };
+    write_byte(first, f)?;
+    for byte in bytes {
+        write_byte(byte, f)?;
+    }
+    Ok(())
+}
+
 // Bytes that are shown in hexadecimal, `-` for none.
 #[derive(Clone, Copy)]
 pub struct Hex<'a>(pub &'a [u8]);
@@ -22,13 +43,6 @@ impl fmt::Display for Hex<'_> {
     ghost output = { λ hex. Some (hex_text hex.0.now) };
 
     fn fmt<W: fmt::Write>(&self, f: &mut fmt::Formatter<W>) -> fmt::Result {
-        let bytes = self.0;
-        if bytes.is_empty() {
-            return f.write_str("-");
-        }
-        for byte in bytes {
-            write_byte(*byte, f)?;
-        }
-        Ok(())
+        write_bytes(self.0.iter().copied(), f)
     }
 }
