@@ -1,25 +1,21 @@
--- Bytes that are written in hexadecimal as they come.
-use Rattle.std.proofs.Common.{◌≡◌, ℕ, List, [], ◌∷◌, ◌++◌, sym, ap, ◌∙◌, append_assoc, append-nil}
-use Rattle.std.specs.declared.fmt.Formatter.{Formatter}
-use Rattle.std.specs.Fmt.{IsPlainFormatter, HasWritten}
-use Rattle.std.proofs.Output.{writes_in_calls_nil, has_written_of_eq, has_written_append}
-use Rattle.hex_texts.specs.Hex.{hex_byte, hex_digits}
-use Rattle.hex_texts.proofs.Digits.{hex_digits-append}
+-- What comes from a cursor that shows what it has still to give.
+use Rattle.std.proofs.Common.{◌≡◌, ℕ, List, ◌∷◌, length, Option, None, Some, map-id, sym, ap, ◌∙◌}
+use Rattle.std.specs.Iterator.{Drains, YieldsFirst}
+use Rattle.std.proofs.iter.Yields.{gives_Drains, listed}
+use Rattle.characters.specs.declared.cursor.Characters.{Characters}
+use Rattle.characters.specs.Left as characters
+use Rattle.characters.specs.Decoding.{decoded}
+use Rattle.base64_texts.specs.declared.Decoded.{Decoded}
+use Rattle.base64_texts.specs.Cursor as base64
+use Rattle.base64_texts.specs.Base64.{decoded as unpacked}
 
-module _ {W : Type 0} (took : W → List ℕ → W → Type 0) where
-  -- what has come of all the bytes, but for those that are left, is written
-  abbrev pub Streamed : Formatter W → List ℕ → List ℕ → Formatter W → Type 0
-  Streamed start all left f = (done : List ℕ) × (all ≡ done ++ left) × (IsPlainFormatter start → HasWritten took start (hex_digits done) f)
+all_come : {S : Type 0} (steps : S → Option ℕ → S → Type 0) (left : S → List ℕ) →
+    ((s t : S) → steps s None t → length (left s) ≡ 0) → ((s : S) (x : ℕ) (t : S) → steps s (Some x) t → left s ≡ x ∷ left t) →
+    (s : S) (xs : List ℕ) → Drains steps s xs → xs ≡ left s
+all_come steps left stop go s xs d = sym (map-id xs) ∙ gives_Drains steps (λ x. x) xs (left s) s (listed steps (λ x. x) left stop go s) d
 
-  pub streamed_none : (start : Formatter W) (all left : List ℕ) → all ≡ left → Streamed start all left start
-  streamed_none start all left e = ([], e, λ p. record { wrote = writes_in_calls_nil took start.writer; plain = p })
+pub characters_come : (s : Characters) (text xs : List ℕ) → characters.left s ≡ decoded text → Drains characters.Gives s xs → xs ≡ decoded text
+characters_come s text xs e d = all_come characters.Gives characters.left (λ s t e. ap length e.0) (λ s x t e. e) s xs d ∙ e
 
-  pub streamed_more : (start : Formatter W) (all left : List ℕ) (f : Formatter W) (b : ℕ) (rest : List ℕ) (g : Formatter W) → Streamed start all left f → left ≡ b ∷ rest → (IsPlainFormatter f → HasWritten took f (hex_byte b) g) → Streamed start all rest g
-  streamed_more start all left f b rest g (done, e, wrote) is put = (
-    done ++ b ∷ [],
-    e ∙ ap (λ l. done ++ l) is ∙ sym (append_assoc done (b ∷ []) rest),
-    λ p. let before = wrote p in has_written_of_eq took start (hex_digits done ++ hex_byte b) (hex_digits (done ++ b ∷ [])) g (sym (hex_digits-append done (b ∷ []))) (has_written_append took start (hex_digits done) f (hex_byte b) g before (put before.plain)),
-  )
-
-  pub streamed_all : (start : Formatter W) (all left : List ℕ) (f : Formatter W) → Streamed start all left f → left ≡ [] → IsPlainFormatter start → HasWritten took start (hex_digits all) f
-  streamed_all start all left f (done, e, wrote) is p = has_written_of_eq took start (hex_digits done) (hex_digits all) f (ap hex_digits (sym (append-nil done) ∙ ap (λ l. done ++ l) (sym is) ∙ sym e)) (wrote p)
+pub bytes_come : (s : Decoded) (text xs : List ℕ) → base64.left s ≡ unpacked text → Drains (YieldsFirst base64.left) s xs → xs ≡ unpacked text
+bytes_come s text xs e d = all_come (YieldsFirst base64.left) base64.left (λ s t e. ap length e.0) (λ s x t e. e) s xs d ∙ e

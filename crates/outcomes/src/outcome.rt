@@ -14,7 +14,7 @@ struct RowLines<'m, 'r> {
     rows: &'r [Row],
 }
 
-impl<'m, 'r> fmt::Display for RowLines<'m, 'r> {
+impl fmt::Display for RowLines<'_, '_> {
     ghost output = { λ lines. Some (row_lines lines.message.now lines.rows.now) };
 
     fn fmt<W: fmt::Write>(&self, f: &mut fmt::Formatter<W>) -> fmt::Result {
@@ -34,7 +34,7 @@ pub struct Accepted<'m, 'r> {
     pub rows: &'r [Row],
 }
 
-impl<'m, 'r> fmt::Display for Accepted<'m, 'r> {
+impl fmt::Display for Accepted<'_, '_> {
     ghost output = { λ accepted. Some (accepted_text accepted.message.now accepted.rows.now) };
 
     fn fmt<W: fmt::Write>(&self, f: &mut fmt::Formatter<W>) -> fmt::Result {
