@@ -9,6 +9,7 @@ ghost use Rattle.reader.specs.Reading.{ShortRun, Fed, reading, Said, rows_of, wi
 ghost use Rattle.characters.specs.References.{is_character};
 
 use crate::machine::Machine;
+use characters::Character;
 use parts::reader::{Part, Reader, Token};
 use parts::tag::Tag;
 use texts::bytes::{Class, all_of, leading_of};
@@ -60,17 +61,6 @@ fn read_parts(message: &[u8], rows: &mut [Row]) -> Result<usize, Refusal>
 // The longest message that is read.
 const LONGEST: usize = 65_536;
 
-// The bytes that may stand in a message.
-pub struct MessageByte;
-
-impl Class for MessageByte {
-    ghost member = { is_character };
-
-    fn has(byte: u8) -> bool {
-        matches!(byte, b'\t' | b'\n' | b'\r' | b' '..=b'~')
-    }
-}
-
 // The bytes that most messages are made of: no tabs and no carriage returns, so that fewer tests tell them.
 pub struct UsualByte;
 
@@ -91,10 +81,10 @@ fn good_bytes(message: &[u8]) -> usize
     if all_of::<UsualByte>(message) {
         return message.len();
     }
-    if all_of::<MessageByte>(message) {
+    if all_of::<Character>(message) {
         return message.len();
     }
-    leading_of::<MessageByte>(message)
+    leading_of::<Character>(message)
 }
 
 // The rows of a message, or the first refusal, which may leave anything in the lent rows.
