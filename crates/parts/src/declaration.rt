@@ -17,12 +17,8 @@ pub fn declaration_len(message: &[u8]) -> Option<usize>
     if !is_declared(message) {
         return Some(0);
     }
-    let mut at = 5;
-    while at + 1 < message.len() {
-        if message[at] == b'?' && message[at + 1] == b'>' {
-            return Some(at + 2);
-        }
-        at += 1;
-    }
-    None
+    message[5..]
+        .windows(2)
+        .position(|pair| matches!(pair, [b'?', b'>']))
+        .map(|at| at + 7)
 }

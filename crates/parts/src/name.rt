@@ -1,5 +1,5 @@
 // The names of elements.
-ghost use Rattle.std.specs.Prelude.{◌≡◌, Decides, MatchOption, ◌≢◌};
+ghost use Rattle.std.specs.Prelude.{◌≡◌, MatchOption, ◌≢◌};
 ghost use Rattle.parts.specs.Names.{spelled, likely};
 ghost use Rattle.parts.specs.Tags.{named};
 ghost use Rattle.parts.specs.declared.name.Name.{Name as SomeName};
@@ -61,19 +61,12 @@ impl Name {
         ensures value { result ≡ named bytes.now }
     {
         let name = likely_name(bytes);
-        if same_bytes(bytes, name.spelling()) {
+        if bytes == name.spelling() {
             Some(name)
         } else {
             None
         }
     }
-}
-
-// Whether two byte strings are the same.
-fn same_bytes(a: &[u8], b: &[u8]) -> bool
-    ensures { Decides result (a.now ≡ b.now) }
-{
-    a == b
 }
 
 // The one name that bytes may spell, going by their length and one of them: a single comparison then tells.

@@ -1,5 +1,5 @@
 // The tag that bytes begin with.
-ghost use Rattle.std.specs.Prelude.{◌≡◌, ℕ, ◌+◌, ◌<◌, ◌≤◌, Bool, length, take, IfSome, Some, None, MatchOption, slice_index};
+ghost use Rattle.std.specs.Prelude.{◌≡◌, ℕ, ◌+◌, ◌≤◌, length, take, IfSome, Some, None, MatchOption};
 ghost use Rattle.parts.specs.Tags.{element_of, AtFront, in_name, named, close_tag, open_tag, name_len, name_end, tag_of};
 
 use crate::name::Name;
@@ -41,14 +41,6 @@ impl Class for NameByte {
     }
 }
 
-// The byte at an index, 0 where there is none.
-fn byte_at(bytes: &[u8], i: usize) -> u8
-    ensures value { result ≡ slice_index bytes.now i }
-    ensures within { 0 < result → i < length bytes.now }
-{
-    if i < bytes.len() { bytes[i] } else { 0 }
-}
-
 // This name and its end, where the bytes begin with it and `>` or `/` stands right behind it.
 #[inline(always)]
 fn ended(bytes: &[u8], name: Name) -> Option<(Name, usize)>
@@ -59,8 +51,8 @@ fn ended(bytes: &[u8], name: Name) -> Option<(Name, usize)>
         return None;
     }
     let end = spelled.len();
-    match byte_at(bytes, end) {
-        b'>' | b'/' => Some((name, end)),
+    match &bytes[end..] {
+        [b'>' | b'/', ..] => Some((name, end)),
         _ => None,
     }
 }
@@ -71,29 +63,21 @@ fn ended(bytes: &[u8], name: Name) -> Option<(Name, usize)>
 fn plain_name(bytes: &[u8]) -> Option<(Name, usize)>
     ensures { IfSome result (AtFront bytes.now) }
 {
-    match byte_at(bytes, 0) {
-        b'v' => ended(bytes, Name::Value),
-        b'm' => ended(bytes, Name::Member),
-        b'n' => ended(bytes, Name::MemberName),
-        b'p' => ended(bytes, Name::Param),
-        b'a' => ended(bytes, Name::Array),
-        b's' => match byte_at(bytes, 3) {
-            b'i' => ended(bytes, Name::String),
-            _ => ended(bytes, Name::Struct),
-        },
-        b'i' => match byte_at(bytes, 1) {
-            b'n' => ended(bytes, Name::Int),
-            _ => ended(bytes, Name::I4),
-        },
-        b'b' => match byte_at(bytes, 1) {
-            b'o' => ended(bytes, Name::Boolean),
-            _ => ended(bytes, Name::Base64),
-        },
-        b'd' => match byte_at(bytes, 3) {
-            b'a' => ended(bytes, Name::Data),
-            b'b' => ended(bytes, Name::Double),
-            _ => ended(bytes, Name::DateTime),
-        },
+    match bytes {
+        [b'v', ..] => ended(bytes, Name::Value),
+        [b'm', ..] => ended(bytes, Name::Member),
+        [b'n', ..] => ended(bytes, Name::MemberName),
+        [b'p', ..] => ended(bytes, Name::Param),
+        [b'a', ..] => ended(bytes, Name::Array),
+        [b's', _, _, b'i', ..] => ended(bytes, Name::String),
+        [b's', ..] => ended(bytes, Name::Struct),
+        [b'i', b'n', ..] => ended(bytes, Name::Int),
+        [b'i', ..] => ended(bytes, Name::I4),
+        [b'b', b'o', ..] => ended(bytes, Name::Boolean),
+        [b'b', ..] => ended(bytes, Name::Base64),
+        [b'd', _, _, b'a', ..] => ended(bytes, Name::Data),
+        [b'd', _, _, b'b', ..] => ended(bytes, Name::Double),
+        [b'd', ..] => ended(bytes, Name::DateTime),
         _ => None,
     }
 }
@@ -107,8 +91,8 @@ fn named_until(bytes: &[u8]) -> Option<(Name, usize)>
         return Some(found);
     }
     let len = leading_of::<NameByte>(bytes);
-    let name = Name::from_spelling(&bytes[0..len])?;
-    let rest = &bytes[len..bytes.len()];
+    let (name, rest) = bytes.split_at(len);
+    let name = Name::from_spelling(name)?;
     Some((name, len + leading_of::<Blank>(rest)))
 }
 
@@ -119,14 +103,14 @@ fn close_tag(bytes: &[u8]) -> Option<Spelling>
     ensures within { IfSome result (λ s. s.len ≤ length bytes.now + 1) }
 {
     let (name, end) = named_until(bytes)?;
-    if byte_at(bytes, end) != b'>' {
-        return None;
+    match &bytes[end..] {
+        [b'>', ..] => Some(Spelling {
+            tag: Tag::Close(name),
+            empty: false,
+            len: end + 2,
+        }),
+        _ => None,
     }
-    Some(Spelling {
-        tag: Tag::Close(name),
-        empty: false,
-        len: end + 2,
-    })
 }
 
 // The open tag that the bytes behind `<` begin with.
@@ -136,13 +120,13 @@ fn open_tag(bytes: &[u8]) -> Option<Spelling>
     ensures within { IfSome result (λ s. s.len ≤ length bytes.now) }
 {
     let (name, end) = named_until(bytes)?;
-    match byte_at(bytes, end) {
-        b'>' => Some(Spelling {
+    match &bytes[end..] {
+        [b'>', ..] => Some(Spelling {
             tag: Tag::Open(name),
             empty: false,
             len: end + 1,
         }),
-        b'/' if byte_at(bytes, end + 1) == b'>' => Some(Spelling {
+        [b'/', b'>', ..] => Some(Spelling {
             tag: Tag::Open(name),
             empty: true,
             len: end + 2,

@@ -1,37 +1,19 @@
-use Rattle.std.proofs.Common.{◌≡◌, ◌+◌, true, false, ◌&&◌, eqb, get_or, sym, ◌∙◌, arith}
-use Rattle.std.proofs.lemmas.Bool.Decides.{nat_tests}
-use Rattle.parts.proofs.Closed.{closes_here, closes_later, closes_never, undeclared, declared}
+use Rattle.std.proofs.Common.{rules, tests, ◌≡◌, ◌+◌, drop, sym, ap, ◌∙◌, arith}
+use Rattle.std.specs.Option.{option_map}
+use Rattle.std.specs.List.{position}
+use Rattle.std.proofs.lemmas.List.{take_rest}
+use Rattle.std.proofs.lemmas.Iterator.Search.{position_from_yields_List}
+use Rattle.parts.proofs.Closed.{undeclared, declared, pairs, is_close, all_windows}
 use Rattle.parts.proofs.declaration.declaration_len.Goals as goal
-use Rattle.parts.proofs.declaration.declaration_len.Goals.{else-message-at-eq63-via-then-message-at-eq63+else-message-at-eq62, else-message-at-eq63-via-else-message-at-eq63}
 
 pub returns-then-not-is_declared : goal.returns-then-not-is_declared
 returns-then-not-is_declared c = record { value = sym (undeclared c.args.message.now (sym c.if-not-is_declared.ensures)); within = omega arith }
 
-pub returns-then-message-at-eq62 : goal.returns-then-message-at-eq62
-returns-then-message-at-eq62 c =
+pub returns-clause-value : goal.returns-clause-value
+returns-clause-value c =
     let msg = c.args.message.now in
-    let at = c.loop-at.at in
-    let t : (eqb (get_or msg at 0) 63 && eqb (get_or msg (at + 1) 0) 62) ≡ true = grind (arith, nat_tests) in
-    record {
-      value = sym (declared msg (sym c.if-not-is_declared.ensures) ∙ c.loop-at.invariant.2 ∙ closes_here msg at (omega arith) t);
-      within = omega arith;
-    }
-
-pub loop-at-preserved : goal.loop-at-preserved
-loop-at-preserved c =
-    let msg = c.args.message.now in
-    let at = c.loop-at.at in
-    let f : (eqb (get_or msg at 0) 63 && eqb (get_or msg (at + 1) 0) 62) ≡ false = elim c.else-message-at-eq63.branch [
-      | else-message-at-eq63-via-then-message-at-eq63+else-message-at-eq62 w ↦ grind (arith, nat_tests)
-      | else-message-at-eq63-via-else-message-at-eq63 w ↦ grind (arith, nat_tests)
-    ] in
-    (c.loop-at.invariant.0, omega arith, c.loop-at.invariant.2 ∙ closes_later msg at (omega arith) f)
-
-pub returns : goal.returns
-returns c =
-    let msg = c.args.message.now in
-    let at = c.loop-at.at in
-    record {
-      value = sym (declared msg (sym c.if-not-is_declared.ensures) ∙ c.loop-at.invariant.2 ∙ closes_never msg at (omega arith));
-      within = tt;
-    }
+    let rest = c.windows.ensures.rest ∙ take_rest msg 5 in
+    let first : c.position.result ≡ position is_close (pairs (drop 5 msg)) =
+    position_from_yields_List is_close _ _ c.position.result c.position.ensures.ran (all_windows c.windows.result (drop 5 msg) rest c.windows.ensures.size) (λ x b q k. search (rules, tests)) in
+    let mapped : c.map.result ≡ option_map (λ n. n + 7) c.position.result = search rules in
+    mapped ∙ ap (option_map (λ n. n + 7)) first ∙ sym (declared msg (sym c.if-not-is_declared.ensures))
