@@ -58,26 +58,35 @@ fn ended(bytes: &[u8], name: Name) -> Option<(Name, usize)>
 }
 
 // The name that the bytes begin with, where `>` or `/` stands right behind it: one or two bytes tell which
-// it can be. Nothing is also given for names that come once in a message.
+// it can be. Nothing is also given for names that come once in a message. One slice pattern for each name, tested in
+// turn, made cutting a fifth dearer.
 #[inline(always)]
 fn plain_name(bytes: &[u8]) -> Option<(Name, usize)>
     ensures { IfSome result (AtFront bytes.now) }
 {
-    match bytes {
-        [b'v', ..] => ended(bytes, Name::Value),
-        [b'm', ..] => ended(bytes, Name::Member),
-        [b'n', ..] => ended(bytes, Name::MemberName),
-        [b'p', ..] => ended(bytes, Name::Param),
-        [b'a', ..] => ended(bytes, Name::Array),
-        [b's', _, _, b'i', ..] => ended(bytes, Name::String),
-        [b's', ..] => ended(bytes, Name::Struct),
-        [b'i', b'n', ..] => ended(bytes, Name::Int),
-        [b'i', ..] => ended(bytes, Name::I4),
-        [b'b', b'o', ..] => ended(bytes, Name::Boolean),
-        [b'b', ..] => ended(bytes, Name::Base64),
-        [b'd', _, _, b'a', ..] => ended(bytes, Name::Data),
-        [b'd', _, _, b'b', ..] => ended(bytes, Name::Double),
-        [b'd', ..] => ended(bytes, Name::DateTime),
+    match bytes.first()? {
+        b'v' => ended(bytes, Name::Value),
+        b'm' => ended(bytes, Name::Member),
+        b'n' => ended(bytes, Name::MemberName),
+        b'p' => ended(bytes, Name::Param),
+        b'a' => ended(bytes, Name::Array),
+        b's' => match bytes.get(3) {
+            Some(b'i') => ended(bytes, Name::String),
+            _ => ended(bytes, Name::Struct),
+        },
+        b'i' => match bytes.get(1) {
+            Some(b'n') => ended(bytes, Name::Int),
+            _ => ended(bytes, Name::I4),
+        },
+        b'b' => match bytes.get(1) {
+            Some(b'o') => ended(bytes, Name::Boolean),
+            _ => ended(bytes, Name::Base64),
+        },
+        b'd' => match bytes.get(3) {
+            Some(b'a') => ended(bytes, Name::Data),
+            Some(b'b') => ended(bytes, Name::Double),
+            _ => ended(bytes, Name::DateTime),
+        },
         _ => None,
     }
 }
