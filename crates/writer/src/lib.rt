@@ -3,6 +3,7 @@
 
 mod marks;
 mod part;
+mod pen;
 mod put;
 mod whole;
 

@@ -30,13 +30,8 @@ pub(crate) fn back(kind: Kind, count: u32) -> &'static [u8]
     ensures { result.now ≡ back_of kind count }
 {
     match kind {
-        Kind::Call => {
-            if count == 0 {
-                b"</methodName>"
-            } else {
-                b"</methodName><params>"
-            }
-        }
+        Kind::Call if count == 0 => b"</methodName>",
+        Kind::Call => b"</methodName><params>",
         Kind::Int => b"</int></value>",
         Kind::Boolean => b"</boolean></value>",
         Kind::String => b"</string></value>",
@@ -53,13 +48,8 @@ pub(crate) fn close(kind: Kind, count: u32) -> &'static [u8]
     ensures { result.now ≡ close_of kind count }
 {
     match kind {
-        Kind::Call => {
-            if count == 0 {
-                b"</methodCall>"
-            } else {
-                b"</params></methodCall>"
-            }
-        }
+        Kind::Call if count == 0 => b"</methodCall>",
+        Kind::Call => b"</params></methodCall>",
         Kind::Response => b"</params></methodResponse>",
         Kind::Fault => b"</fault></methodResponse>",
         Kind::Struct => b"</struct></value>",

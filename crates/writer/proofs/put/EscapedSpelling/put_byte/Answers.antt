@@ -8,9 +8,9 @@ pub returns-in-Some : goal.returns-in-Some
 returns-in-Some c =
     let w = c.in-Some.reference.now in
     let e : reference_for c.args.byte ≡ Some w = ap reference_for (sym c.from.ensures) ∙ sym c.in-Some.ensures in
-    subst (λ t. Put c.args.page.now c.args.at t c.put.new.page c.put.result) (c.as_bytes.ensures.value ∙ sym (escape_some c.args.byte w e)) c.put.ensures
+    subst (λ t. Put c.args.pen.now t c.put.new.self) (c.as_bytes.ensures.value ∙ sym (escape_some c.args.byte w e)) c.put.ensures
 
 pub returns-in-None : goal.returns-in-None
 returns-in-None c =
     let e : reference_for c.args.byte ≡ None = ap reference_for (sym c.from.ensures) ∙ sym c.in-None.ensures in
-    subst (λ t. Put c.args.page.now c.args.at t c.put-in-None.new.page c.put-in-None.result) (sym (escape_none c.args.byte e)) c.put-in-None.ensures
+    subst (λ t. Put c.args.pen.now t c.put-in-None.new.self) (sym (escape_none c.args.byte e)) c.put-in-None.ensures
