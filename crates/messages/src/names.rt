@@ -76,7 +76,7 @@ fn repeat_in(message: &[u8], rows: &[Row], at: usize, sorted: &mut [u16]) -> Opt
     let mut member = at + 1;
     for n in 0..count {
         let name = rows[member].text.cut(message);
-        match seek(message, rows, &sorted[0..n], name) {
+        match seek(message, rows, &sorted[..n], name) {
             Ok(_) => return Some(member),
             Err(place) => keep(sorted, n, place, member as u16),
         }

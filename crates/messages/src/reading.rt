@@ -10,7 +10,7 @@ use crate::names::first_repeat;
 use reader::{fault_fits, read_rows};
 use wire::level::Level;
 use wire::refusal::Refusal;
-use wire::row::{Row, blank_rows};
+use wire::row::{Row, blank_first};
 
 // What is wrong with the rows of a message that the grammar derives, if anything is.
 fn flaw(message: &[u8], rows: &[Row]) -> Option<Refusal>
@@ -33,11 +33,11 @@ fn read_within(message: &[u8], rows: &mut [Row]) -> Result<usize, Refusal>
     ensures { Answer (length rows.old) message.now rows.old result rows.new }
 {
     let used = read_rows(message, rows)?;
-    let Some(refusal) = flaw(message, &rows[0..used]) else {
+    let Some(refusal) = flaw(message, &rows[..used]) else {
         return Ok(used);
     };
     let all = rows.len();
-    blank_rows(rows, all);
+    blank_first(rows, all);
     Err(refusal)
 }
 
@@ -55,5 +55,5 @@ pub fn read(level: Level, message: &[u8], rows: &mut [Row]) -> Result<usize, Ref
     if rows.len() < room {
         return Err(Refusal::MemoryTooSmall);
     }
-    read_within(message, &mut rows[0..room])
+    read_within(message, &mut rows[..room])
 }

@@ -19,9 +19,7 @@ returns-in-Ok c =
     let rows = c.args.rows.now in
     let seen = c.loop-n.invariant.1 in
     let k = c.in-Ok.field-0 in
-    let name = decoded c.cut-name.result.now in
-    let all : c.loop-n.n - 0 ≡ c.loop-n.n = omega arith in
-    let found = subst (λ i. (k < length (take i c.loop-n.sorted)) × (name_at msg rows (get_or (take i c.loop-n.sorted) k 0) ≡ name)) all c.in-Ok.ensures in
+    let found = c.in-Ok.ensures in
     let old = seen.comes k (omega (arith, found.0, seen.many)) in (
       c.loop-n.n,
       c.loop-n-test.true,
@@ -46,9 +44,7 @@ loop-n-preserved c =
     let seen = c.loop-n.invariant.1 in
     let sorted = take c.loop-n.n c.loop-n.sorted in
     let lt : c.loop-n.member < length rows = omega (arith, seen.here, c.requires.held c.loop-n.n c.loop-n-test.true) in
-    let all : c.loop-n.n - 0 ≡ c.loop-n.n = omega arith in
     let place = c.in-Err.place in
-    let belongs = subst (λ i. Belongs msg rows (take i c.loop-n.sorted) (decoded c.cut-name.result.now) place) all c.in-Err.ensures in
-    let named = subst (λ name. Belongs msg rows sorted (decoded name) place) c.cut-name.ensures belongs in
+    let named = subst (λ name. Belongs msg rows sorted (decoded name) place) c.cut-name.ensures c.in-Err.ensures in
     let more = seen_more msg rows c.args.at c.loop-n.n c.loop-n.member place sorted seen lt named c.past_part-member.result c.past_part-member.ensures.value c.past_part-member.ensures.within in
     (omega (arith, c.loop-n.invariant.0, c.keep.auto.sorted), subst (λ l. Seen msg rows c.args.at (c.loop-n.n + 1) c.past_part-member.result l) (sym c.keep.ensures) more)

@@ -22,10 +22,9 @@ flaw-requires c =
     let old = c.args.rows.now in
     let left = c.read_rows.new.rows in
     let n = c.in_ok-used.used in
-    let all : n - 0 ≡ n = omega arith in
     let read = c.in_ok-used.ensures in
     let r = was_read msg old left n read.value in
-    let rows : take (n - 0) left ≡ r.rs = ap (λ k. take k left) all ∙ front msg old left n r read.rows in
+    let rows = front msg old left n r read.rows in
     let d = read_is_derived msg r.rs r.reads in
     record { few = omega (arith, ap length rows, r.fits, c.requires); said = (d.0, subst (λ l. Say msg l d.0) (sym rows) d.2) }
 
@@ -35,10 +34,9 @@ returns-in_default c =
     let old = c.args.rows.now in
     let left = c.read_rows.new.rows in
     let n = c.in_ok-used.used in
-    let all : n - 0 ≡ n = omega arith in
     let read = c.in_ok-used.ensures in
     let r = was_read msg old left n read.value in
-    accepted_answer msg old left n r read.rows (subst (λ k. Sound msg (take k left)) all c.in_default.ensures)
+    accepted_answer msg old left n r read.rows c.in_default.ensures
 
 pub returns : goal.returns
 returns c =
@@ -46,10 +44,9 @@ returns c =
     let old = c.args.rows.now in
     let left = c.read_rows.new.rows in
     let n = c.in_ok-used.used in
-    let all : n - 0 ≡ n = omega arith in
     let read = c.in_ok-used.ensures in
     let r = was_read msg old left n read.value in
     let e = c.in-Some.refusal in
     let long : length left ≡ length old = omega (arith, c.read_rows.auto.rows) in
-    flawed_answer msg old left n r read.rows e c.blank_rows.new.rows (subst (λ k. Flawed msg (take k left) e) all c.in-Some.ensures)
-    (c.blank_rows.ensures ∙ all_cleared blank_row (length left) left refl ∙ ap (λ k. replicate k blank_row) long)
+    flawed_answer msg old left n r read.rows e c.blank_first.new.memory c.in-Some.ensures
+    (c.blank_first.ensures ∙ all_cleared blank_row (length left) left refl ∙ ap (λ k. replicate k blank_row) long)
