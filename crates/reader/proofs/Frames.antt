@@ -1,5 +1,5 @@
 -- Laws of the frames that are open, the innermost first.
-use Rattle.std.proofs.Common.{◌≡◌, ℕ, zero, suc, ◌+◌, ◌<◌, ◌≤◌, ◌≢◌, List, [], ◌∷◌, length, All, get_or, set, Some, Option, MatchOption, refl, ap, subst, add-one, arith}
+use Rattle.std.proofs.Common.{◌≡◌, ℕ, zero, suc, ◌+◌, ◌<◌, ◌≤◌, ◌≢◌, List, [], ◌∷◌, length, All, set, Some, Option, MatchOption, refl, ap, subst, add-one, arith}
 use Rattle.std.proofs.lemmas.List.{get_or-set_same, get_or-set_other}
 use Rattle.std.proofs.lemmas.List.Elements.{All-head, All-rest, All-cons, All-same, All-weaker}
 use Rattle.reader.specs.declared.frame.Frame.{Frame}

@@ -1,5 +1,5 @@
 -- The checks of a whole message, one after another.
-use Rattle.std.proofs.Common.{◌≡◌, ℕ, ◌<◌, ◌≤◌, min, eqb, ltb, leb, true, false, List, [], ◌++◌, length, drop, replicate, Ok, Err, Result, is_err, OnOk, refl, sym, ap, ◌∙◌, append-nil, arith}
+use Rattle.std.proofs.Common.{◌≡◌, ℕ, ◌<◌, ◌≤◌, min, eqb, ltb, leb, true, false, List, [], ◌++◌, length, drop, replicate, Ok, Err, Result, is_err, OnOk, refl, ap, ◌∙◌, append-nil, arith}
 use Rattle.std.specs.List.{prefix_len}
 use Rattle.std.proofs.lemmas.List.{drop_all}
 use Rattle.std.proofs.lemmas.Bool.{cond-true, cond-false, lt-ltb, le-ltb, eq-eqb, ne_eqb, le-leb, lt-leb, true≢false, false≢true}

@@ -1,5 +1,5 @@
 -- The reading of a whole message, and what the code that reads it leaves.
-use Rattle.std.specs.Prelude.{◌≡◌, ℕ, ◌+◌, ◌^◌, ◌<◌, ◌≤◌, cond, List, [], ◌∷◌, length, drop, replicate, Some, None, Ok, Err, Option, Result, ◌==◌, nat_le, nat_lt, slice_set}
+use Rattle.std.specs.Prelude.{◌≡◌, ℕ, ◌+◌, ◌≤◌, cond, List, [], ◌∷◌, length, drop, replicate, Some, None, Ok, Err, Option, Result, ◌==◌, nat_le, nat_lt, slice_set}
 use Rattle.std.specs.List.{prefix_len}
 use Rattle.wire.specs.declared.row.Row.{Row}
 use Rattle.wire.specs.declared.refusal.Refusal.{Refusal}

@@ -1,4 +1,4 @@
-use Rattle.std.proofs.Common.{◌∷◌, ap, ◌∙◌, arith, rules, ◌<◌, length}
+use Rattle.std.proofs.Common.{◌∷◌, ap, ◌∙◌, rules, ◌<◌, length}
 use Rattle.reader.proofs.Frames.{stack_push}
 use Rattle.reader.proofs.stack.Stack.push.Goals as goal
 
