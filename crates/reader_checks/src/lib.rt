@@ -8,10 +8,7 @@ mod tests {
 
     fn refuses(message: &[u8], number: u8, place: usize) -> bool {
         let mut rows = [Row::BLANK; 8];
-        match read_rows(message, &mut rows) {
-            Ok(_) => false,
-            Err(refusal) => refusal.told() == (number, place),
-        }
+        read_rows(message, &mut rows).is_err_and(|refusal| refusal.told() == (number, place))
     }
 
     // How many rows a message has, or 0 where it is refused.
