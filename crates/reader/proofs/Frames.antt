@@ -1,5 +1,5 @@
 -- Laws of the frames that are open, the innermost first.
-use Rattle.std.proofs.Common.{◌≡◌, ℕ, zero, suc, ◌+◌, ◌<◌, ◌≤◌, ◌≢◌, List, [], ◌∷◌, length, All, set, Some, Option, MatchOption, refl, ap, subst, add-one, arith}
+use Rattle.std.proofs.Common.{◌≡◌, ℕ, zero, suc, ◌+◌, ◌<◌, ◌≤◌, ◌≢◌, List, [], ◌∷◌, length, All, set, Some, None, Option, MatchOption, sym, refl, ap, ◌∙◌, subst, add-one, arith}
 use Rattle.std.proofs.lemmas.List.{get_or-set_same, get_or-set_other}
 use Rattle.std.proofs.lemmas.List.Elements.{All-head, All-rest, All-cons, All-same, All-weaker}
 use Rattle.reader.specs.declared.frame.Frame.{Frame}
@@ -43,3 +43,7 @@ counted_under n m f old rest le e h = All-weaker (λ g. g.count ≤ n) (λ g. g.
 pub counted_again : (n m : ℕ) (f g : Frame) (old rest new : List Frame) → n ≤ m → old ≡ f ∷ rest → new ≡ g ∷ rest → g.count ≤ m → Counted n old → Counted m new
 counted_again n m f g old rest new le was is top h =
     All-same (λ x. x.count ≤ m) new (g ∷ rest) is (All-cons (λ x. x.count ≤ m) g rest top (counted_under n m f old rest le was h))
+
+pub counted_left : (n : ℕ) (old new : List Frame) (o : Option Frame) → MatchOption o ((old ≡ []) × (new ≡ [])) (λ g. old ≡ g ∷ new) → Counted n old → Counted n new
+counted_left n old new None h all = subst (Counted n) (h.0 ∙ sym h.1) all
+counted_left n old new (Some f) h all = counted_under n n f old new (omega arith) h all

@@ -47,10 +47,11 @@ ShortThen (Ok part) = Short part
 ShortThen (Err e) = Unit {0}
 
 -- what a machine that is fed a token, with a run in hand, leaves
-pub record Fed (m : Machine) (rs : List Row) (run : Part) (t : Token) (r : Result Part Refusal) (m' : Machine) (rs' : List Row) : Type 0 where
+pub record Fed (m : Machine) (run : Part) (t : Token) (r : Result Part Refusal) (m' : Machine) : Type 0 where
+  pub same_rows : m'.rows.ghost_name ≡ m.rows.ghost_name
   pub tick : m'.steps ≤ m.steps + 2
   pub short : ShortThen r
-  pub does : (ps : Parts) (len : ℕ) → judge slice_set (state m rs) run.place run.bytes.now (piece_of t then ps) len ≡ goes_on r (state m' rs') ps len
+  pub does : (ps : Parts) (len : ℕ) → judge slice_set (state m) run.place run.bytes.now (piece_of t then ps) len ≡ goes_on r (state m') ps len
 
 -- rows laid over lent ones: those that have no place are left out, and what is past them stays
 abbrev pub laid : List Row → List Row → List Row

@@ -16,15 +16,16 @@ use table::moves::move_at;
 use wire::refusal::Refusal;
 use wire::row::Row;
 
-// Where the reading stands, what is open, how many rows there are, also past the end of the lent ones, and how many
-// steps were made, which bounds what is counted.
+// The lent rows, where the reading stands, what is open, how many rows there are, also past the end of the lent ones,
+// and how many steps were made, which bounds what is counted.
 #[derive(Drop)]
-pub(crate) struct Machine {
+pub(crate) struct Machine<'r> {
+    rows: &'r mut [Row],
     mode: Mode,
     stack: Stack,
     used: usize,
     steps: usize,
-    ghost rows: { used ≤ steps },
+    ghost few: { used ≤ steps },
     ghost counts: { All (λ frame. frame.count ≤ steps) stack },
 }
 
@@ -73,14 +74,16 @@ fn store(rows: &mut [Row], i: usize, row: Row)
     }
 }
 
-impl Machine {
+impl<'r> Machine<'r> {
     ghost use Rattle.reader.specs.Held.{state, outcome, Turn};
 
-    pub(crate) fn new() -> Machine
+    pub(crate) fn new(rows: &'r mut [Row]) -> Machine<'r>
+        ensures same_rows { result.rows.ghost_name ≡ rows.entry.ghost_name }
         ensures steps { result.steps ≡ 0 }
-        ensures state { (rs : List SomeRow) → state result rs ≡ st Start [] 0 rs }
+        ensures state { state result ≡ st Start [] 0 rows.old }
     {
         Machine {
+            rows,
             mode: Mode::Start,
             stack: Stack::new(),
             used: 0,
@@ -91,8 +94,9 @@ impl Machine {
     // A value is closed.
     fn leave(&mut self)
         requires { self.old.steps < 2 ^ 32 }
+        ensures same_rows { self.new.rows.ghost_name ≡ self.old.rows.ghost_name }
         ensures tick { self.new.steps ≡ self.old.steps + 1 }
-        ensures does { (rs : List SomeRow) → state self.new rs ≡ leave self.old.stack self.old.used rs }
+        ensures does { state self.new ≡ leave self.old.stack self.old.used self.old.rows.now }
     {
         self.steps += 1;
         let Some(holder) = self.stack.pop() else {
@@ -107,14 +111,14 @@ impl Machine {
     }
 
     // What holds values opens.
-    fn nest(&mut self, rows: &mut [Row], shape: Shape, place: usize) -> Result<(), Refusal>
+    fn nest(&mut self, shape: Shape, place: usize) -> Result<(), Refusal>
         requires { self.old.steps < 2 ^ 32 }
-        ensures { Turn 2 self.old (nest slice_set (nat_lt (length self.old.stack) 17) shape self.old.stack place self.old.used rows.old) result self.new rows.new }
+        ensures { Turn 2 self.old (nest slice_set (nat_lt (length self.old.stack) 17) shape self.old.stack place self.old.used self.old.rows.now) result self.new }
     {
         if self.stack.is_full() {
             return Err(Refusal::TooDeep(place));
         }
-        store(rows, self.used, Row::BLANK);
+        store(self.rows, self.used, Row::BLANK);
         self.stack.push(Frame {
             shape,
             row: self.used,
@@ -127,19 +131,19 @@ impl Machine {
     }
 
     // What holds values closes: its row has its count.
-    fn unnest(&mut self, rows: &mut [Row], place: usize) -> Result<(), Refusal>
+    fn unnest(&mut self, place: usize) -> Result<(), Refusal>
         requires { self.old.steps < 2 ^ 32 }
-        ensures { Turn 2 self.old (unnest slice_set self.old.stack place self.old.used rows.old) result self.new rows.new }
+        ensures { Turn 2 self.old (unnest slice_set self.old.stack place self.old.used self.old.rows.now) result self.new }
     {
         let holder = self.stack.pop().ok_or(Refusal::MisplacedTag(place))?;
-        store(rows, holder.row, holder.holder_row());
+        store(self.rows, holder.row, holder.holder_row());
         self.mode = past(holder.shape);
         Ok(())
     }
 
     // The run is the method's name, which the call's row will have.
     fn name(&mut self, row: Row, place: usize) -> Result<(), Refusal>
-        ensures { (rs : List SomeRow) → Turn 0 self.old (named slice_set self.old.stack place row self.old.used rs) result self.new rs }
+        ensures { Turn 0 self.old (named slice_set self.old.stack place row self.old.used self.old.rows.now) result self.new }
     {
         let call = self.stack.pop().ok_or(Refusal::MisplacedTag(place))?;
         self.stack.push(Frame {
@@ -152,7 +156,7 @@ impl Machine {
 
     // The response is a fault.
     fn fault(&mut self, place: usize) -> Result<(), Refusal>
-        ensures { (rs : List SomeRow) → Turn 0 self.old (faulted slice_set self.old.stack place self.old.used rs) result self.new rs }
+        ensures { Turn 0 self.old (faulted slice_set self.old.stack place self.old.used self.old.rows.now) result self.new }
     {
         let response = self.stack.pop().ok_or(Refusal::MisplacedTag(place))?;
         self.stack.push(Frame {
@@ -164,24 +168,25 @@ impl Machine {
     }
 
     // The run's row is put behind the others.
-    fn emit(&mut self, rows: &mut [Row], row: Row)
+    fn emit(&mut self, row: Row)
         requires { self.old.steps < 2 ^ 32 }
-        ensures rows { rows.new ≡ slice_set rows.old self.old.used row }
+        ensures same_rows { self.new.rows.ghost_name ≡ self.old.rows.ghost_name }
+        ensures rows { self.new.rows.now ≡ slice_set self.old.rows.now self.old.used row }
         ensures tick { self.new.steps ≡ self.old.steps + 1 }
         ensures used { self.new.used ≡ self.old.used + 1 }
         ensures stack { self.new.stack ≡ self.old.stack }
     {
-        store(rows, self.used, row);
+        store(self.rows, self.used, row);
         self.used += 1;
         self.steps += 1;
     }
 
     // Does what a tag at a place does that leaves the run before it alone.
     #[inline(always)]
-    fn pass(&mut self, rows: &mut [Row], does: Option<Move>, place: usize) -> Result<(), Refusal>
+    fn pass(&mut self, does: Option<Move>, place: usize) -> Result<(), Refusal>
         requires room { self.old.steps + 2 < 2 ^ 32 }
         requires blank { LeavesRow does }
-        ensures { (row : SomeRow) → Turn 2 self.old (act slice_set does place row self.old.stack self.old.used rows.old) result self.new rows.new }
+        ensures { (row : SomeRow) → Turn 2 self.old (act slice_set does place row self.old.stack self.old.used self.old.rows.now) result self.new }
     {
         match does.ok_or(Refusal::MisplacedTag(place))? {
             Move::Enter(mode) => {
@@ -192,8 +197,8 @@ impl Machine {
                 self.leave();
                 Ok(())
             }
-            Move::Nest(shape) => self.nest(rows, shape, place),
-            Move::Unnest => self.unnest(rows, place),
+            Move::Nest(shape) => self.nest(shape, place),
+            Move::Unnest => self.unnest(place),
             Move::Fault => self.fault(place),
             Move::Emit(_) | Move::Word | Move::Name => unreachable!(),
         }
@@ -201,53 +206,41 @@ impl Machine {
 
     // Does what a tag at a place does, with the row of the run before it.
     #[inline(always)]
-    fn act(
-        &mut self,
-        rows: &mut [Row],
-        does: Option<Move>,
-        place: usize,
-        row: Row,
-    ) -> Result<(), Refusal>
+    fn act(&mut self, does: Option<Move>, place: usize, row: Row) -> Result<(), Refusal>
         requires room { self.old.steps + 2 < 2 ^ 32 }
-        ensures { Turn 2 self.old (act slice_set does place row self.old.stack self.old.used rows.old) result self.new rows.new }
+        ensures { Turn 2 self.old (act slice_set does place row self.old.stack self.old.used self.old.rows.now) result self.new }
     {
         match does.ok_or(Refusal::MisplacedTag(place))? {
             Move::Emit(mode) => {
-                self.emit(rows, row);
+                self.emit(row);
                 self.mode = mode;
                 Ok(())
             }
             Move::Word => {
-                self.emit(rows, row);
+                self.emit(row);
                 self.leave();
                 Ok(())
             }
             Move::Name => self.name(row, place),
             Move::Enter(_) | Move::Leave | Move::Nest(_) | Move::Unnest | Move::Fault => {
-                self.pass(rows, does, place)
+                self.pass(does, place)
             }
         }
     }
 
     // One run and the tag behind it.
-    pub(crate) fn step(
-        &mut self,
-        rows: &mut [Row],
-        run: Part<'_>,
-        place: usize,
-        tag: Tag,
-    ) -> Result<(), Refusal>
+    pub(crate) fn step(&mut self, run: Part<'_>, place: usize, tag: Tag) -> Result<(), Refusal>
         requires room { self.old.steps + 2 < 2 ^ 32 }
         requires short { Short run }
-        ensures { Turn 2 self.old (step slice_set (state self.old rows.old) run.entry.place run.entry.bytes.now place tag) result self.new rows.new }
+        ensures { Turn 2 self.old (step slice_set (state self.old) run.entry.place run.entry.bytes.now place tag) result self.new }
     {
         let does = move_at(self.mode, tag);
         if must_be_blank(self.mode, tag) {
             blank_run(run)?;
-            return self.pass(rows, does, place);
+            return self.pass(does, place);
         }
         let row = run_row(self.mode, tag, run)?;
-        self.act(rows, does, place, row)
+        self.act(does, place, row)
     }
 
     // How many rows the message has so far, also past the end of the lent ones.
@@ -260,7 +253,7 @@ impl Machine {
     // The end of a message of so many bytes, behind a run.
     pub(crate) fn finish(&self, run: Part<'_>, len: usize) -> Result<(), Refusal>
         requires { Short run }
-        ensures { (rs : List SomeRow) → finish slice_set (state self.now rs) run.entry.place run.entry.bytes.now len ≡ outcome result (state self.now rs) }
+        ensures { finish slice_set (state self.now) run.entry.place run.entry.bytes.now len ≡ outcome result (state self.now) }
     {
         if self.mode != Mode::Finished {
             return Err(Refusal::Unfinished(len));

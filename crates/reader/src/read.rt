@@ -17,23 +17,18 @@ use wire::refusal::Refusal;
 use wire::row::{Row, blank_first};
 
 // Feeds a token to the machine, with the run before it in hand, and gives the run to go on with.
-fn feed<'a>(
-    machine: &mut Machine,
-    rows: &mut [Row],
-    run: Part<'a>,
-    token: Token<'a>,
-) -> Result<Part<'a>, Refusal>
+fn feed<'a>(machine: &mut Machine<'_>, run: Part<'a>, token: Token<'a>) -> Result<Part<'a>, Refusal>
     requires room { machine.old.steps + 2 < 2 ^ 32 }
     requires short { Short run }
     requires next { ShortRun token }
-    ensures { Fed machine.old rows.old run.entry token.entry result machine.new rows.new }
+    ensures { Fed machine.old run.entry token.entry result machine.new }
 {
     let (place, tag) = match token {
         Token::Run(part) => return Ok(part),
         Token::Open(name, part) => (part.place, Tag::Open(name)),
         Token::Close(name, part) => (part.place, Tag::Close(name)),
     };
-    machine.step(rows, run, place, tag)?;
+    machine.step(run, place, tag)?;
     Ok(Part {
         place: 0,
         bytes: &run.bytes[..0],
@@ -46,13 +41,13 @@ fn read_parts(message: &[u8], rows: &mut [Row]) -> Result<usize, Refusal>
     ensures { Said (reading slice_set message.now rows.old) result rows.new }
 {
     let mut reader = Reader::new(message)?;
-    let mut machine = Machine::new();
+    let mut machine = Machine::new(rows);
     let mut run = Part {
         place: 0,
         bytes: &message[..0],
     };
     while let Some(token) = reader.next()? {
-        run = feed(&mut machine, rows, run, token)?;
+        run = feed(&mut machine, run, token)?;
     }
     machine.finish(run, message.len())?;
     Ok(machine.used())

@@ -1,4 +1,4 @@
-use Rattle.std.proofs.Common.{[], length, drop, set, sym, ap, ◌∙◌, arith, length-drop}
+use Rattle.std.proofs.Common.{[], length, drop, set, sym, refl, ap, ◌∙◌, arith, length-drop}
 use Rattle.parts.specs.Cutting.{part_count}
 use Rattle.parts.proofs.Turns.{few_parts}
 use Rattle.reader.specs.Steps.{judge}
@@ -13,9 +13,10 @@ loop-token-init c =
     let n = begun.0 in
     let m = c.new-machine.ensures in
     let count = ap part_count begun.3 in (
+      refl,
       begun.4,
       begun.2,
       omega arith,
       omega (arith, m.steps, count, few_parts n (drop n msg), length-drop n msg, c.requires),
-      (λ i. judge set (m.state rs i) 0 [] (begun.3 i) (length msg)) ∙ ap (read_from set msg rs) (sym begun.1),
+      (λ i. judge set (m.state i) 0 [] (begun.3 i) (length msg)) ∙ ap (read_from set msg rs) (sym begun.1),
     )

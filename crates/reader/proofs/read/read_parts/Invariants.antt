@@ -9,9 +9,9 @@ use Rattle.reader.proofs.read.read_parts.Given as goal
 
 abbrev pub invariant-loop-token : goal.invariant-loop-token
 invariant-loop-token l =
-    Inside l.reader × (l.reader.message.now ≡ l.message) × Short l.run
+    (l.machine.rows.ghost_name ≡ l.initial.machine.rows.ghost_name) × Inside l.reader × (l.reader.message.now ≡ l.message) × Short l.run
     × (l.machine.steps + 2 * part_count (parts_left l.reader) ≤ 600000)
-    × (judge set (state l.machine l.rows) l.run.place l.run.bytes.now (parts_left l.reader) (length l.message) ≡ reading set l.message l.initial.rows)
+    × (judge set (state l.machine) l.run.place l.run.bytes.now (parts_left l.reader) (length l.message) ≡ reading set l.message l.fn.rows)
 
 abbrev pub decreases-loop-token : goal.decreases-loop-token
 decreases-loop-token l = part_count (parts_left l.reader)

@@ -5,9 +5,10 @@ use Rattle.reader.proofs.machine.Machine.act.Goals as goal
 pub returns-in-Name : goal.returns-in-Name
 returns-in-Name c =
     let m = c.args.self.now in
-    let rs = c.args.rows.now in
-    let h = c.name.ensures rs in
+    let rs = m.rows.now in
+    let h = c.name.ensures in
     record {
+      same_rows = h.same_rows;
       tick = omega (arith, h.tick);
       does = ap (λ v. act set v c.args.place c.args.row m.stack m.used rs) (c.in_ok-mode.ensures.ok_part ∙ ap Some c.in-Name.is) ∙ h.does;
     }

@@ -6,4 +6,4 @@ pub invariant_of-self-2 : goal.invariant_of-self-2
 invariant_of-self-2 c =
     let old = c.args.self.now in
     let was = c.in-Some.ensures.top in
-    record { rows = omega (arith, old.rows); counts = counted_again _ _ _ _ _ _ _ (omega arith) was c.push.ensures (omega (arith, top_counted _ _ _ _ was old.counts)) old.counts }
+    record { few = omega (arith, old.few); counts = counted_again _ _ _ _ _ _ _ (omega arith) was c.push.ensures (omega (arith, top_counted _ _ _ _ was old.counts)) old.counts }

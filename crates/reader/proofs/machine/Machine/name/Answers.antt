@@ -6,4 +6,4 @@ pub invariant_of-self-2 : goal.invariant_of-self-2
 invariant_of-self-2 c =
     let old = c.args.self.now in
     let was = was_open old.stack c.pop.new.self _ c.in_ok-call.call c.in_ok-call.ensures.ok_part c.pop.ensures.top in
-    record { rows = old.rows; counts = counted_again _ _ _ _ _ _ _ (omega arith) was c.push.ensures (top_counted _ _ _ _ was old.counts) old.counts }
+    record { few = old.few; counts = counted_again _ _ _ _ _ _ _ (omega arith) was c.push.ensures (top_counted _ _ _ _ was old.counts) old.counts }

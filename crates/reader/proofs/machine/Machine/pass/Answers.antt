@@ -5,9 +5,10 @@ use Rattle.reader.proofs.machine.Machine.pass.Goals as goal
 pub returns-in-Fault : goal.returns-in-Fault
 returns-in-Fault c = λ row.
     let m = c.args.self.now in
-    let rs = c.args.rows.now in
-    let h = c.fault.ensures rs in
+    let rs = m.rows.now in
+    let h = c.fault.ensures in
     record {
+      same_rows = h.same_rows;
       tick = omega (arith, h.tick);
       does = ap (λ v. act set v c.args.place row m.stack m.used rs) (c.in_ok-mode.ensures.ok_part ∙ ap Some c.in-Fault.is) ∙ h.does;
     }

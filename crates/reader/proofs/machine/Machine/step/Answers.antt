@@ -7,11 +7,12 @@ use Rattle.reader.proofs.machine.Machine.step.Goals as goal
 pub returns-then-must_be_blank : goal.returns-then-must_be_blank
 returns-then-must_be_blank c =
     let m = c.args.self.now in
-    let rs = c.args.rows.now in
+    let rs = m.rows.now in
     let blank = c.in_ok-blank_run.field-0 in
     let row : run_row m.mode c.args.tag c.args.run.place c.args.run.bytes.now ≡ Ok blank = c.must_be_blank.ensures.blank c.if-must_be_blank.true c.args.run.place c.args.run.bytes.now ∙ sym c.in_ok-blank_run.ensures in
     let h = c.pass.ensures blank in
     record {
+      same_rows = h.same_rows;
       tick = h.tick;
       does =
           ap (λ o. and_then o (λ r. act set (lookup c.args.tag (entries m.mode)) c.args.place r m.stack m.used rs)) row
