@@ -55,7 +55,7 @@ impl Name {
         }
     }
 
-    // The name that bytes spell.
+    // The name that bytes spell. No `TryFrom`, since there is nothing to say of bytes that spell none.
     pub fn from_spelling(bytes: &[u8]) -> Option<Name>
         ensures name { MatchOption result ((n : SomeName) → bytes.now ≢ spelled n) (λ n. bytes.now ≡ spelled n) }
         ensures value { result ≡ named bytes.now }

@@ -2,7 +2,7 @@
 ghost use Rattle.std.specs.Prelude.{◌≡◌, ℕ, ◌+◌, ◌-◌, ◌≤◌, List, length, take, drop};
 ghost use Rattle.std.specs.List.{prefix_len};
 ghost use Rattle.parts.specs.Cutting.{tag as tagPiece, in_run, run_at, CutInOneWay};
-ghost use Rattle.parts.specs.Readers.{piece_of, part_of, parts_left, TokenBorrows, Inside, RunInside, Begins, Gives};
+ghost use Rattle.parts.specs.Next.{begun_at};
 ghost use Rattle.parts.specs.declared.reader.Next.TheVariants.{Tag as TagNext};
 
 use crate::declaration::declaration_len;
@@ -25,6 +25,21 @@ pub enum Token<'a> {
     Run(Part<'a>),
 }
 
+impl<'a> Token<'a> {
+    ghost use Rattle.parts.specs.Readers.{piece_of, part_of};
+
+    // A tag as a token.
+    fn of_tag(tag: Tag, part: Part<'a>) -> Token<'a>
+        ensures piece { piece_of result ≡ tagPiece part.entry.place tag }
+        ensures part { part_of result ≡ part.entry }
+    {
+        match tag {
+            Tag::Open(name) => Token::Open(name, part),
+            Tag::Close(name) => Token::Close(name, part),
+        }
+    }
+}
+
 // A tag in `/>`, whose close tag is still to come.
 #[derive(Clone, Copy, PartialEq, Eq, Debug)]
 pub struct Emptied {
@@ -32,7 +47,7 @@ pub struct Emptied {
     place: usize,
 }
 
-// What comes next.
+// What comes next. It is data and no closure, since a reader stands still between its calls.
 #[derive(Clone, Copy, PartialEq, Eq, Debug)]
 pub enum Next {
     Run,
@@ -41,11 +56,14 @@ pub enum Next {
     Close(Emptied),
 }
 
+// A message, a place in it that is never past its end, and what comes next there.
 #[derive(Drop)]
 pub struct Reader<'a> {
     message: &'a [u8],
     at: usize,
     next: Next,
+    ghost inside: { at ≤ length message.now },
+    ghost began: { begun_at next ≤ at },
 }
 
 // The bytes of a run: all but `<`.
@@ -59,18 +77,9 @@ impl Class for RunByte {
     }
 }
 
-// The bytes from a place on.
-fn rest_from(message: &[u8], at: usize) -> &[u8]
-    ensures { result.now ≡ drop at message.now }
-{
-    if at <= message.len() {
-        &message[at..message.len()]
-    } else {
-        &message[0..0]
-    }
-}
-
 impl<'a> Reader<'a> {
+    ghost use Rattle.parts.specs.Readers.{parts_left, TokenBorrows, Inside, RunInside, Begins, Gives};
+
     // A reader at the first run of a message, behind its declaration.
     pub fn new(message: &'a [u8]) -> Result<Reader<'a>, Refusal>
         ensures parts { Begins message.now result }
@@ -94,49 +103,16 @@ impl<'a> Reader<'a> {
         ensures bytes { result.bytes.now ≡ run_at (drop self.old.at self.old.message.now) }
         ensures at { self.new.at ≡ self.old.at + prefix_len in_run (drop self.old.at self.old.message.now) }
     {
-        let message = self.message;
         let place = self.at;
-        if place >= message.len() {
-            return Part {
-                place,
-                bytes: &message[0..0],
-            };
-        }
-        let rest = &message[place..message.len()];
+        let rest = &self.message[place..];
         let len = leading_of::<RunByte>(rest);
         self.at = place + len;
         Part {
             place,
-            bytes: &rest[0..len],
+            bytes: &rest[..len],
         }
     }
-}
 
-// The part of a message from a place up to an end.
-fn part_of(message: &[u8], place: usize, end: usize) -> Part<'_>
-    ensures place { result.place ≡ place }
-    ensures bytes { result.bytes.now ≡ take (end - place) (drop place message.now) }
-{
-    let rest = rest_from(message, place);
-    let len = end.saturating_sub(place).min(rest.len());
-    Part {
-        place,
-        bytes: &rest[0..len],
-    }
-}
-
-// A tag as a token.
-fn token_of(tag: Tag, part: Part<'_>) -> Token<'_>
-    ensures piece { piece_of result ≡ tagPiece part.entry.place tag }
-    ensures part { part_of result ≡ part.entry }
-{
-    match tag {
-        Tag::Open(name) => Token::Open(name, part),
-        Tag::Close(name) => Token::Close(name, part),
-    }
-}
-
-impl<'a> Reader<'a> {
     // Cuts off the tag at a `<`; none is left at the end.
     fn cut_tag(&mut self) -> Result<Option<Token<'a>>, Refusal>
         requires { self.old.next ≡ TagNext }
@@ -147,10 +123,10 @@ impl<'a> Reader<'a> {
     {
         let message = self.message;
         let place = self.at;
-        if place >= message.len() {
+        let [_, behind @ ..] = &message[place..] else {
             return Ok(None);
-        }
-        let Some(spelling) = tag_of(&message[place + 1..message.len()]) else {
+        };
+        let Some(spelling) = tag_of(behind) else {
             return Err(Refusal::NotATag(place));
         };
         let end = place + 1 + spelling.len;
@@ -165,7 +141,7 @@ impl<'a> Reader<'a> {
         } else {
             Next::Run
         };
-        Ok(Some(token_of(spelling.tag, part)))
+        Ok(Some(Token::of_tag(spelling.tag, part)))
     }
 
     // The next part of the message.
@@ -175,8 +151,6 @@ impl<'a> Reader<'a> {
         ensures inside { Inside self.old → Inside self.new × RunInside (length self.old.message.now) result }
         ensures borrows { TokenBorrows self.new result }
     {
-        let message = self.message;
-        let at = self.at;
         match self.next {
             Next::Tag => self.cut_tag(),
             Next::Run => {
@@ -186,13 +160,19 @@ impl<'a> Reader<'a> {
             Next::EmptyRun(tag) => {
                 self.next = Next::Close(tag);
                 Ok(Some(Token::Run(Part {
-                    place: at,
-                    bytes: &message[0..0],
+                    place: self.at,
+                    bytes: &[],
                 })))
             }
             Next::Close(tag) => {
                 self.next = Next::Run;
-                Ok(Some(Token::Close(tag.name, part_of(message, tag.place, at))))
+                Ok(Some(Token::Close(
+                    tag.name,
+                    Part {
+                        place: tag.place,
+                        bytes: &self.message[tag.place..self.at],
+                    },
+                )))
             }
         }
     }

@@ -2,8 +2,7 @@ use Rattle.std.proofs.Common.{◌≡◌, ℕ, ◌-◌, List, length, take, drop,
 use Rattle.std.specs.List.{prefix_len}
 use Rattle.std.proofs.lemmas.List.{length-take-le}
 use Rattle.std.proofs.lemmas.List.Sums.{prefix_len-le-length}
-use Rattle.parts.specs.declared.tag.Tag.TheVariants as tags
-use Rattle.parts.specs.Cutting.{run, tag, ◌then◌, parts_from, parts_at_tag, in_run}
+use Rattle.parts.specs.Cutting.{run, ◌then◌, parts_at_tag, in_run}
 use Rattle.parts.specs.Readers.{parts_left, parts_by}
 use Rattle.parts.proofs.Turns.{at_run}
 use Rattle.parts.proofs.reader.Reader.next.Goals as goal
@@ -45,9 +44,4 @@ unfolding parts_left
 returns-in-Close c =
     let msg = c.args.self.now.message.now in
     let at = c.args.self.now.at in
-    record {
-      same = refl;
-      gives = ap (λ n. parts_by n at (drop at msg)) c.in-Close.is ∙ ap (λ p. tag p (tags.Close c.in-Close.tag.name) then parts_from at (drop at msg)) (sym c.part_of.ensures.place);
-      inside = λ h. (h, tt);
-      borrows = c.part_of.ensures.bytes ∙ ap (λ p. take (at - p) (drop p msg)) (sym c.part_of.ensures.place);
-    }
+    record { same = refl; gives = ap (λ n. parts_by n at (drop at msg)) c.in-Close.is; inside = λ h. (h, tt); borrows = refl }
