@@ -1,18 +1,14 @@
 -- A text read byte by byte: what one more byte in front does to its letters and its padding.
-use Rattle.std.proofs.Common.{◌≡◌, ℕ, ◌+◌, ◌<◌, ◌≤◌, Bool, true, false, cond, List, [], ◌∷◌, map, length, get_or, take, drop, sym, refl, ap, ◌∙◌, ⊎_elim, one-add, arith}
+use Rattle.std.proofs.Common.{◌≡◌, ℕ, ◌+◌, ◌≤◌, Bool, true, false, cond, List, [], ◌∷◌, map, length, take, drop, sym, refl, ap, ◌∙◌, ⊎_elim, one-add, arith}
 use Rattle.std.specs.List.{prefix_len}
 use Rattle.std.proofs.lemmas.Bool.Decides.{nat_tests}
 use Rattle.std.proofs.lemmas.Bool.{cases_Bool}
 use Rattle.texts.specs.Bytes.{is_blank, after_blanks}
-use Rattle.std.proofs.lemmas.List.{drop_more, drop_all}
-use Rattle.base64_texts.specs.Base64.{is_letter, is_pad, sextet, nonblank, padding, sextets, last_or}
+use Rattle.base64_texts.specs.Base64.{is_letter, sextet, nonblank, padding, sextets, last_or}
 
 -- no letter is a blank
 pub letter_shown : (b : ℕ) → is_letter b ≡ true → is_blank b ≡ false
 letter_shown b h = grind (arith, nat_tests)
-
-pub pad_shown : (b : ℕ) → is_pad b ≡ true → is_blank b ≡ false
-pad_shown b h = grind (arith, nat_tests)
 
 pub nonblank_skip : (b : ℕ) (t : List ℕ) → is_blank b ≡ true → nonblank (b ∷ t) ≡ nonblank t
 nonblank_skip b t h = simp h
@@ -48,14 +44,8 @@ sextets_letter b t h = ap (λ bs. map sextet (front_of bs)) (nonblank_keep b t (
 pub sextets_stop : (b : ℕ) (t : List ℕ) → is_blank b ≡ false → is_letter b ≡ false → sextets (b ∷ t) ≡ []
 sextets_stop b t h k = ap (λ bs. map sextet (front_of bs)) (nonblank_keep b t h) ∙ ap (map sextet) (front_no is_letter b (nonblank t) k)
 
-pub padding_skip : (b : ℕ) (t : List ℕ) → is_blank b ≡ true → padding (b ∷ t) ≡ padding t
-padding_skip b t h = ap rest_of (nonblank_skip b t h)
-
 pub padding_letter : (b : ℕ) (t : List ℕ) → is_letter b ≡ true → padding (b ∷ t) ≡ padding t
 padding_letter b t h = ap rest_of (nonblank_keep b t (letter_shown b h)) ∙ rest_yes is_letter b (nonblank t) h
-
-pub padding_stop : (b : ℕ) (t : List ℕ) → is_blank b ≡ false → is_letter b ≡ false → padding (b ∷ t) ≡ nonblank (b ∷ t)
-padding_stop b t h k = ap rest_of (nonblank_keep b t h) ∙ rest_no is_letter b (nonblank t) k ∙ sym (nonblank_keep b t h)
 
 -- blanks in front say nothing, and behind them stands no blank
 pub sextets_blanks : (t : List ℕ) → sextets (after_blanks t) ≡ sextets t
@@ -97,29 +87,3 @@ pub scanned_letter : (text : List ℕ) (n s b : ℕ) (t : List ℕ) → Scanned 
 scanned_letter text n s b t so_far is =
     let S = sextets_letter b t is in
     record { few = omega (arith, so_far.few); count = omega (arith, so_far.count, ap length S); last = sym (ap (last_or s) S) ∙ so_far.last; padded = sym (padding_letter b t is) ∙ so_far.padded }
-
--- what is left of a padding from place i on: how many `=`, and how long it is
-abbrev Ahead : List ℕ → ℕ → ℕ → ℕ → Type 0
-Ahead text i pads long = (prefix_len is_pad (nonblank (drop i text)) ≡ pads) × (length (nonblank (drop i text)) ≡ long)
-
-pub pad_ahead : (text : List ℕ) (i : ℕ) → i < length text → is_pad (get_or text i 0) ≡ true → Ahead text i (1 + prefix_len is_pad (nonblank (drop (i + 1) text))) (1 + length (nonblank (drop (i + 1) text)))
-pad_ahead text i h is =
-    let b = get_or text i 0 in
-    let rest = nonblank (drop (i + 1) text) in
-    let N : nonblank (drop i text) ≡ b ∷ rest = ap nonblank (drop_more text i 0 h) ∙ nonblank_keep b (drop (i + 1) text) (pad_shown b is) in
-    (ap (prefix_len is_pad) N ∙ ap (λ v. cond v (1 + prefix_len is_pad rest) 0) is, ap length N ∙ sym (one-add (length rest)))
-
-pub blank_ahead : (text : List ℕ) (i : ℕ) → i < length text → is_blank (get_or text i 0) ≡ true → Ahead text i (prefix_len is_pad (nonblank (drop (i + 1) text))) (length (nonblank (drop (i + 1) text)))
-blank_ahead text i h is =
-    let N : nonblank (drop i text) ≡ nonblank (drop (i + 1) text) = ap nonblank (drop_more text i 0 h) ∙ nonblank_skip (get_or text i 0) (drop (i + 1) text) is in
-    (ap (prefix_len is_pad) N, ap length N)
-
-pub stop_ahead : (text : List ℕ) (i : ℕ) → i < length text → is_blank (get_or text i 0) ≡ false → is_pad (get_or text i 0) ≡ false → Ahead text i 0 (1 + length (nonblank (drop (i + 1) text)))
-stop_ahead text i h shown other =
-    let b = get_or text i 0 in
-    let rest = nonblank (drop (i + 1) text) in
-    let N : nonblank (drop i text) ≡ b ∷ rest = ap nonblank (drop_more text i 0 h) ∙ nonblank_keep b (drop (i + 1) text) shown in
-    (ap (prefix_len is_pad) N ∙ ap (λ v. cond v (1 + prefix_len is_pad rest) 0) other, ap length N ∙ sym (one-add (length rest)))
-
-pub none_ahead : (text : List ℕ) (i : ℕ) → length text ≤ i → Ahead text i 0 0
-none_ahead text i h = let none = drop_all i text h in (ap (λ t. prefix_len is_pad (nonblank t)) none, ap (λ t. length (nonblank t)) none)

@@ -1,7 +1,7 @@
 -- A page to which characters are written one after another.
-use Rattle.std.proofs.Common.{◌≡◌, ℕ, ◌+◌, ◌-◌, ◌<◌, ◌≤◌, List, [], ◌∷◌, ◌++◌, length, get_or, take, drop, Some, None, sym, ap, ◌∙◌, append_assoc, append-nil, length-append, length-drop, arith}
+use Rattle.std.proofs.Common.{◌≡◌, ℕ, ◌+◌, ◌-◌, ◌<◌, List, [], ◌∷◌, ◌++◌, length, get_or, take, drop, Some, None, sym, ap, ◌∙◌, append_assoc, append-nil, length-append, length-drop, arith}
 use borrow.Rule.Slice.PartMut.{put_mid}
-use Rattle.std.proofs.lemmas.List.{at_drop_more, at_drop_all, drop-drop, drop_all, take_rest, drop_at, take_at, take_more, flat_map_more}
+use Rattle.std.proofs.lemmas.List.{at_drop_more, drop-drop, drop_all, take_rest, drop_at, take_at, take_more, flat_map_more}
 use Rattle.characters.specs.Spelling.{reference_for, or_itself, escape, characters_spelling}
 
 pub escape_some : (c : ℕ) (w : List ℕ) → reference_for c ≡ Some w → escape c ≡ w
@@ -17,9 +17,6 @@ pub length_more : (cs : List ℕ) (i : ℕ) → i < length cs → length (charac
 length_more cs i h =
     let e : characters_spelling (drop i cs) ≡ escape (get_or cs i 0) ++ characters_spelling (drop (i + 1) cs) = at_drop_more characters_spelling cs i 0 h in
     ap length e ∙ length-append (escape (get_or cs i 0)) (characters_spelling (drop (i + 1) cs))
-
-pub length-end : (cs : List ℕ) (i : ℕ) → length cs ≤ i → length (characters_spelling (drop i cs)) ≡ 0
-length-end cs i h = at_drop_all (λ l. length (characters_spelling l)) cs i h
 
 -- what is written so far, with one character more
 pub spelling_more : (cs : List ℕ) (i : ℕ) → i < length cs → characters_spelling (take (i + 1) cs) ≡ characters_spelling (take i cs) ++ escape (get_or cs i 0)

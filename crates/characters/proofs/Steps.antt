@@ -54,13 +54,10 @@ bad_plain at (b ∷ bs) = ⊎_elim
     ap (λ n. first_bad_from n 0 (b ∷ bs)) on ∙ ap (λ k. first_bad_from (at + k) 0 (drop k (b ∷ bs))) (sym none))
     (cases_Bool (is_plain b))
 
--- the unit at the front of a text: its character, then the characters behind it; at a bad reference there are none
+-- the unit at the front of a text: its character, and then the characters behind it
 module _ (b : ℕ) (bs : List ℕ) where
   pub decoded_some : (u : ℕ × ℕ) → unit_at b bs ≡ Some u → decoded (b ∷ bs) ≡ u.0 ∷ decoded (drop u.1 bs)
   decoded_some u e = ap (λ o. before o (λ k. decoded_from k bs)) e ∙ ap (λ cs. u.0 ∷ cs) (decoded_skips u.1 bs)
-
-  pub decoded_none : unit_at b bs ≡ None → decoded (b ∷ bs) ≡ []
-  decoded_none e = ap (λ o. before o (λ k. decoded_from k bs)) e
 
   pub bad_some : (at : ℕ) (u : ℕ × ℕ) → unit_at b bs ≡ Some u → first_bad_from at 0 (b ∷ bs) ≡ first_bad_from (at + 1 + u.1) 0 (drop u.1 bs)
   bad_some at u e = ap (λ o. bad_or at o (λ k. first_bad_from (at + 1) k bs)) e ∙ bad_skips (at + 1) u.1 bs

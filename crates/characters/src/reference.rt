@@ -21,6 +21,7 @@ fn character_named(name: &str) -> Option<u8>
 }
 
 // The same of a name that is still bytes.
+#[tactic(auto, using(crate::proofs::Names::no_text))]
 fn by_name(name: &[u8]) -> Option<u8>
     ensures { result ≡ named name.now }
 {
@@ -40,6 +41,7 @@ fn worth(digits: &[u8], radix: u32) -> Option<u32>
 }
 
 // The character whose number is written by one to `most` digits of a base.
+#[tactic(auto, using(crate::proofs::Numerals::numeral_of), unfolding(crate::specs::References::numeral))]
 fn by_number(digits: &[u8], radix: u32, most: usize) -> Option<u8>
     requires { (2 ≤ radix) × ((radix ≤ 16) × (most ≤ 5)) }
     ensures { result ≡ numeral radix most digits.now }
@@ -52,6 +54,7 @@ fn by_number(digits: &[u8], radix: u32, most: usize) -> Option<u8>
 }
 
 // The character that a numbered reference names, given what stands behind its `#`.
+#[tactic(auto, unfolding(crate::specs::References::numbered))]
 fn by_digits(digits: &[u8]) -> Option<u8>
     ensures { result ≡ numbered digits.now }
 {
@@ -62,6 +65,7 @@ fn by_digits(digits: &[u8]) -> Option<u8>
 }
 
 // The character that a reference names, given its body.
+#[tactic(auto, unfolding(crate::specs::References::referenced))]
 pub(crate) fn character_of(body: &[u8]) -> Option<u8>
     ensures { result ≡ referenced body.now }
 {

@@ -38,6 +38,7 @@ fn line_feed(text: &[u8]) -> usize
 }
 
 // The character that stands at a byte, given the bytes behind it, and how many of those belong to it.
+#[tactic(auto, unfolding(crate::specs::Decoding::unit_at))]
 pub(crate) fn unit(first: u8, rest: &[u8]) -> Option<(u8, usize)>
     ensures value { result ≡ unit_at first rest.now }
     ensures within { IfSome result (λ u. u.1 ≤ length rest.now) }

@@ -1,5 +1,5 @@
 -- Bytes put at a place of a page, one behind another.
-use Rattle.std.proofs.Common.{◌≡◌, ℕ, ◌+◌, ◌≤◌, List, [], ◌++◌, length, take, drop, sym, refl, ap, ◌∙◌, subst, append_assoc, append-nil, arith, length-append}
+use Rattle.std.proofs.Common.{◌≡◌, ℕ, ◌+◌, ◌≤◌, List, [], ◌++◌, length, take, drop, sym, refl, ap, ◌∙◌, append_assoc, arith, length-append}
 use Rattle.std.proofs.lemmas.List.{drop-drop, drop_at, take_at, length-take-le, take-append-drop}
 use Rattle.writer.specs.Pages.{pasted, Put}
 use Rattle.writer.specs.declared.pen.Pen.{Pen}
@@ -56,15 +56,9 @@ pub record PutSome (old : Pen) (all rest : List ℕ) (new : Pen) : Type 0 where
   pub splits : all ≡ done ++ rest
   pub put : Put old done new
 
-pub some_none : (p : Pen) (all : List ℕ) → PutSome p all all p
-some_none p all = record { done = []; splits = refl; put = put_none p }
-
 pub some_more : {p p₁ p₂ : Pen} {all rest : List ℕ} (piece rest' : List ℕ) → PutSome p all rest p₁ → rest ≡ piece ++ rest' → Put p₁ piece p₂ → PutSome p all rest' p₂
 some_more piece rest' some step more = record {
   done = some.done ++ piece;
   splits = some.splits ∙ ap (λ l. some.done ++ l) step ∙ sym (append_assoc some.done piece rest');
   put = put_both some.done piece some.put more;
 }
-
-pub some_all : {p p₁ : Pen} {all rest : List ℕ} → PutSome p all rest p₁ → rest ≡ [] → Put p all p₁
-some_all {p} {p₁} some none = subst (λ l. Put p l p₁) (sym (some.splits ∙ ap (λ l. some.done ++ l) none ∙ append-nil some.done)) some.put
