@@ -1,5 +1,5 @@
 -- The rows of members in the order of their names.
-use Rattle.std.specs.Prelude.{◌≡◌, ℕ, ◌<◌, ◌≤◌, List, length, get_or, Option, MatchOption, ◌≢◌, slice_index, slice_index_or}
+use Rattle.std.specs.Prelude.{◌≡◌, ℕ, ◌<◌, ◌≤◌, List, length, get_or, Option, MatchOption, Result, MatchResult, ◌≢◌, slice_index, slice_index_or}
 use Rattle.wire.specs.declared.row.Row.{Row}
 use Rattle.wire.specs.Rows.{blank_row}
 use Rattle.characters.specs.Decoding.{decoded}
@@ -22,6 +22,10 @@ module _ (msg : List ℕ) (rows : List Row) where
     pub within : p ≤ length sorted
     pub below : (a : ℕ) → a < p → Precedes (name_at (slice_index sorted a)) name
     pub above : (a : ℕ) → p ≤ a → a < length sorted → Precedes name (name_at (slice_index sorted a))
+
+  -- where a name stands among sorted rows, or else where it belongs
+  abbrev pub IsPlaceOf : List ℕ → List ℕ → Result ℕ ℕ → Type 0
+  IsPlaceOf sorted name r = MatchResult r (λ k. (k < length sorted) × (name_at (slice_index sorted k) ≡ name)) (Belongs sorted name)
 
   -- the name of member k of the struct at row s
   abbrev pub member_name : ℕ → ℕ → List ℕ

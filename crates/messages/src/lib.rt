@@ -3,6 +3,7 @@
 
 mod names;
 mod reading;
+mod sorted;
 mod walk;
 
 pub use reading::read;

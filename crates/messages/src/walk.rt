@@ -11,10 +11,11 @@ pub(crate) fn past_part(rows: &[Row], start: usize) -> usize
     ensures within { result ≤ length rows.now }
 {
     let mut owed: usize = 1;
-    let mut at = start;
-    while owed > 0 && at < rows.len() {
-        owed = owed - 1 + rows[at].count as usize;
-        at += 1;
+    for (passed, row) in rows[start..].iter().enumerate() {
+        if owed == 0 {
+            return start + passed;
+        }
+        owed = owed - 1 + row.count as usize;
     }
-    at
+    rows.len()
 }

@@ -1,5 +1,20 @@
-use Rattle.std.proofs.Common.{Equal, sym, ◌∙◌}
+use Rattle.std.proofs.Common.{◌≡◌, ℕ, List, length, sym, refl, ap, subst}
+use Rattle.std.specs.Ordering.{nat_cmp}
+use Rattle.std.proofs.iter.Yields.{listed}
+use Rattle.std.proofs.lemmas.Iterator.{YieldsList}
+use Rattle.std.proofs.lemmas.Iterator.Search.{cmp_from_yields_List}
+use Rattle.characters.specs.declared.cursor.Characters.{Characters}
+use Rattle.characters.specs.Decoding.{decoded}
+use Rattle.characters.specs.Left.{left, Gives}
 use Rattle.messages.proofs.names.name_order.Goals as goal
 
-pub returns-in-None : goal.returns-in-None
-returns-in-None c = c.loop-c.invariant Equal (c.in_default.ensures.steps.0 ∙ sym c.in-None.ensures.steps.0)
+-- a cursor gives the characters that it has left
+come : (s : Characters) (cs : List ℕ) → left s ≡ cs → YieldsList Gives (λ c. c) s cs
+come s cs e = subst (YieldsList Gives (λ c. c) s) e (record { runs = listed Gives (λ c. c) left (λ s t e. ap length e.0) (λ s c t e. e) s })
+
+pub returns : goal.returns
+returns c =
+    cmp_from_yields_List (λ s it. it ≡ s) c.new-2.result nat_cmp c.cmp.result c.cmp.ensures.ran
+    (come c.new.result (decoded c.args.a.now) c.new.ensures)
+    (λ it e. subst (λ s. YieldsList Gives (λ c. c) s (decoded c.args.b.now)) (sym e) (come c.new-2.result (decoded c.args.b.now) c.new-2.ensures))
+    (λ x y. refl)

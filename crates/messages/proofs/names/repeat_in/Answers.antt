@@ -1,28 +1,18 @@
-use Rattle.std.proofs.Common.{◌≡◌, ◌+◌, ◌-◌, ◌<◌, length, get_or, take, sym, refl, ap, ◌∙◌, subst, arith}
+use Rattle.std.proofs.Common.{◌+◌, ◌<◌, length, Ok, sym, ap, ◌∙◌, subst, arith}
 use Rattle.characters.specs.Decoding.{decoded}
-use Rattle.messages.specs.Sorted.{name_at, Belongs}
-use Rattle.messages.proofs.Seen.{Seen, seen_more, seen_none}
+use Rattle.messages.specs.Sorted.{name_at, Belongs, IsPlaceOf}
+use Rattle.messages.proofs.Seen.{Seen, seen_more}
 use Rattle.messages.proofs.names.repeat_in.Goals as goal
-
-pub loop-n-init : goal.loop-n-init
-loop-n-init c = (c.requires.fits.1.1, seen_none c.args.message.now c.args.rows.now c.args.at (take 0 c.args.sorted.now) c.requires.fits.0 refl)
-
-pub shape_of-sorted-in-Ok : goal.shape_of-sorted-in-Ok
-shape_of-sorted-in-Ok c = c.loop-n.invariant.0 ∙ sym c.requires.fits.1.1
-
-pub shape_of-sorted : goal.shape_of-sorted
-shape_of-sorted c = c.loop-n.invariant.0 ∙ sym c.requires.fits.1.1
 
 pub returns-in-Ok : goal.returns-in-Ok
 returns-in-Ok c =
     let msg = c.args.message.now in
     let rows = c.args.rows.now in
-    let seen = c.loop-n.invariant.1 in
-    let k = c.in-Ok.field-0 in
-    let found = c.in-Ok.ensures in
-    let old = seen.comes k (omega (arith, found.0, seen.many)) in (
-      c.loop-n.n,
-      c.loop-n-test.true,
+    let seen = c.loop.invariant in
+    let found = subst (λ sorted. IsPlaceOf msg rows sorted (decoded c.cut-name.result.now) (Ok c.in-Ok.field-0)) c.as_slice.ensures c.in-Ok.ensures in
+    let old = seen.comes c.in-Ok.field-0 (omega (arith, found.0, seen.many)) in (
+      c.loop.counter,
+      c.loop-test.true,
       record {
         here = seen.here;
         differ = seen.differ;
@@ -32,19 +22,14 @@ returns-in-Ok c =
       },
     )
 
-pub keep-requires : goal.keep-requires
-keep-requires c =
-    let seen = c.loop-n.invariant.1 in
-    (omega (arith, c.in-Err.ensures.within, seen.many), omega (arith, c.loop-n.invariant.0, seen.far, seen.within, c.requires.fits.1.0))
-
-pub loop-n-preserved : goal.loop-n-preserved
-loop-n-preserved c =
+pub loop-preserved : goal.loop-preserved
+loop-preserved c =
     let msg = c.args.message.now in
     let rows = c.args.rows.now in
-    let seen = c.loop-n.invariant.1 in
-    let sorted = take c.loop-n.n c.loop-n.sorted in
-    let lt : c.loop-n.member < length rows = omega (arith, seen.here, c.requires.held c.loop-n.n c.loop-n-test.true) in
+    let seen = c.loop.invariant in
     let place = c.in-Err.place in
-    let named = subst (λ name. Belongs msg rows sorted (decoded name) place) c.cut-name.ensures c.in-Err.ensures in
-    let more = seen_more msg rows c.args.at c.loop-n.n c.loop-n.member place sorted seen lt named c.past_part-member.result c.past_part-member.ensures.value c.past_part-member.ensures.within in
-    (omega (arith, c.loop-n.invariant.0, c.keep.auto.sorted), subst (λ l. Seen msg rows c.args.at (c.loop-n.n + 1) c.past_part-member.result l) (sym c.keep.ensures) more)
+    let lt : c.loop.member < length rows = omega (arith, seen.here, c.requires.held c.loop.counter c.loop-test.true) in
+    let belongs = subst (λ sorted. Belongs msg rows sorted (decoded c.cut-name.result.now) place) c.as_slice.ensures c.in-Err.ensures in
+    let named = subst (λ name. Belongs msg rows c.loop.sorted (decoded name) place) c.cut-name.ensures belongs in
+    let more = seen_more msg rows c.args.at c.loop.counter c.loop.member place c.loop.sorted seen lt named c.past_part-member.result c.past_part-member.ensures.value c.past_part-member.ensures.within in
+    subst (Seen msg rows c.args.at (c.loop.counter + 1) c.past_part-member.result) (sym c.insert.ensures) more

@@ -1,10 +1,9 @@
-use Rattle.std.proofs.Common.{◌≡◌, ◌-◌, length, take, replicate, sym, refl, ap, ◌∙◌, subst, arith}
+use Rattle.std.proofs.Common.{◌≡◌, length, replicate, sym, refl, ap, ◌∙◌, subst, arith}
 use Rattle.std.proofs.lemmas.Result.{err_from_is_err_and}
 use Rattle.wire.specs.Rows.{blank_row}
 use Rattle.reader.specs.Derivations.{Say}
 use Rattle.reader.proofs.Exact.{read_is_derived}
 use Rattle.reader.proofs.Whole.{all_cleared}
-use Rattle.messages.specs.Answers.{Sound, Flawed}
 use Rattle.messages.proofs.Left.{refused_answer, was_read, front, accepted_answer, flawed_answer}
 use Rattle.messages.proofs.reading.read_within.Goals as goal
 

@@ -1,11 +1,8 @@
-use Rattle.std.proofs.Common.{◌≡◌, ◌+◌, ◌-◌, ◌*◌, ◌^◌, ◌≤◌, length, drop}
+use Rattle.std.proofs.Common.{◌≡◌, ◌+◌, ◌*◌, ◌^◌, ◌≤◌, drop}
 use Rattle.messages.specs.Holding.{extent, counts_of}
 use Rattle.messages.proofs.walk.past_part.Given as goal
 
-abbrev pub invariant-loop-owed : goal.invariant-loop-owed
-invariant-loop-owed l =
-    (l.at + extent l.owed (drop l.at (counts_of l.rows)) ≡ l.start + extent 1 (drop l.start (counts_of l.rows)))
-    × (l.owed ≤ 1 + l.at * 2 ^ 32) × (l.at ≤ length l.rows)
-
-abbrev pub decreases-loop-owed : goal.decreases-loop-owed
-decreases-loop-owed l = length l.initial.rows - l.at
+abbrev pub invariant-loop-passed : goal.invariant-loop-passed
+invariant-loop-passed l =
+    (l.passed + extent l.owed (drop l.passed (drop l.start (counts_of l.rows))) ≡ extent 1 (drop l.start (counts_of l.rows)))
+    × (l.owed ≤ 1 + l.passed * 2 ^ 32)
