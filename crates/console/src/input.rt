@@ -10,11 +10,7 @@ use std::io::{ErrorKind, Read};
 fn line_feeds(bytes: &[u8]) -> usize
     ensures { result ≡ count_by (λ b. nat_eq b 10) bytes.now }
 {
-    let mut count = 0;
-    for byte in bytes {
-        count += usize::from(*byte == b'\n');
-    }
-    count
+    bytes.iter().filter(|byte| **byte == b'\n').count()
 }
 
 #[derive(Drop)]
@@ -35,13 +31,12 @@ impl<R: Read> Input<R> {
 
     // Fills the part with what comes next.
     pub(crate) fn fill(&mut self, part: &mut [u8]) -> Result<(), Stop> {
-        match self.source.read_exact(part) {
-            Ok(()) => {}
-            Err(error) if error.kind() == ErrorKind::UnexpectedEof => {
-                return Err(Stop::Broken(Broken::CutOff));
-            }
-            Err(error) => return Err(Stop::Failed(error)),
-        }
+        self.source
+            .read_exact(part)
+            .map_err(|error| match error.kind() {
+                ErrorKind::UnexpectedEof => Stop::Broken(Broken::CutOff),
+                _ => Stop::Failed(error),
+            })?;
         self.lines = self.lines.saturating_add(line_feeds(part));
         Ok(())
     }
@@ -50,13 +45,11 @@ impl<R: Read> Input<R> {
     pub(crate) fn skip(&mut self, count: usize, buffer: &mut [u8]) -> Result<(), Stop>
         requires { 0 < length buffer.old }
     {
-        let mut left = count;
-        while left > 0 {
-            let part = left.min(buffer.len());
-            self.fill(&mut buffer[0..part])?;
-            left -= part;
+        for _ in 0..count / buffer.len() {
+            self.fill(buffer)?;
         }
-        Ok(())
+        let rest = count % buffer.len();
+        self.fill(&mut buffer[..rest])
     }
 
     // The byte that comes next; nothing at the end.
@@ -73,25 +66,23 @@ impl<R: Read> Input<R> {
     pub(crate) fn line(&mut self, buffer: &mut [u8]) -> Result<Option<usize>, Stop>
         ensures { IfOk result (λ n. Within n (length buffer.old)) }
     {
-        let mut len = 0;
-        while len < buffer.len() {
+        for (len, place) in buffer.iter_mut().enumerate() {
             match self.next_byte()? {
                 Some(b'\n') => return Ok(Some(len)),
-                Some(byte) => buffer[len] = byte,
+                Some(byte) => *place = byte,
                 None if len == 0 => return Ok(None),
-                None => return Err(Stop::Broken(Broken::CutOff)),
+                None => return Err(Broken::CutOff.into()),
             }
-            len += 1;
         }
-        Err(Stop::Broken(Broken::LongLine))
+        Err(Broken::LongLine.into())
     }
 
     // Passes over the line feed behind a message.
     pub(crate) fn newline(&mut self) -> Result<(), Stop> {
         match self.next_byte()? {
             Some(b'\n') => Ok(()),
-            Some(_) => Err(Stop::Broken(Broken::NoNewline)),
-            None => Err(Stop::Broken(Broken::CutOff)),
+            Some(_) => Err(Broken::NoNewline.into()),
+            None => Err(Broken::CutOff.into()),
         }
     }
 }

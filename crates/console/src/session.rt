@@ -11,6 +11,7 @@ use outcomes::{Accepted, Refused};
 use std::alloc::Global;
 use std::io;
 use std::io::{BufReader, BufWriter, Read, Write};
+use std::ops::ControlFlow;
 use totals::Totals;
 use wire::level::Level;
 use wire::refusal::Refusal;
@@ -24,7 +25,7 @@ struct Session<R, W> {
 }
 
 // How a run ended: at the end of its input, or at a line that cannot be done.
-#[derive(Clone, Copy)]
+#[derive(Clone, Copy, Debug, PartialEq, Eq)]
 pub enum End {
     Whole,
     Broken,
@@ -57,11 +58,11 @@ impl<R: Read, W: Write> Session<R, W> {
     ) -> Result<(), Stop>
         requires { count ≤ length buffer.old }
     {
-        self.input.fill(&mut buffer[0..count])?;
+        self.input.fill(&mut buffer[..count])?;
         self.input.newline()?;
-        let message = &buffer[0..count];
+        let message = &buffer[..count];
         match read(level, message, rows) {
-            Ok(used) => self.accept(message, &rows[0..used])?,
+            Ok(used) => self.accept(message, &rows[..used])?,
             Err(refusal) => self.refuse(refusal)?,
         }
         Ok(())
@@ -77,23 +78,20 @@ impl<R: Read, W: Write> Session<R, W> {
         Ok(())
     }
 
-    // Does what the next line asks for; tells whether there was one.
-    fn step(&mut self, buffer: &mut [u8], rows: &mut [Row]) -> Result<bool, Stop>
+    // Does what the next line asks for, or breaks where there is none.
+    fn step(&mut self, buffer: &mut [u8], rows: &mut [Row]) -> Result<ControlFlow<()>, Stop>
         requires { 65536 ≤ length buffer.old }
     {
         let Some(end) = self.input.line(buffer)? else {
-            return Ok(false);
+            return Ok(ControlFlow::Break(()));
         };
-        let Some(command) = Command::from_line(&buffer[0..end]) else {
-            return Err(Stop::Broken(Broken::UnknownCommand));
-        };
-        match command {
+        match Command::try_from(&buffer[..end])? {
             Command::Read { level, length } => match admit(level, length) {
                 Ok(level) => self.read(level, length, buffer, rows)?,
                 Err(refusal) => self.pass(refusal, length, buffer)?,
             },
         }
-        Ok(true)
+        Ok(ControlFlow::Continue(()))
     }
 
     // Says at which line, and why, the run stops, if it is the input's fault.
@@ -111,11 +109,12 @@ impl<R: Read, W: Write> Session<R, W> {
     fn go_on(&mut self, buffer: &mut [u8], rows: &mut [Row]) -> anyhow::Result<End>
         requires { 65536 ≤ length buffer.old }
     {
+        // A loop that waits on input has no measure but a count.
         for _ in 0..u64::MAX {
             let line = self.input.line_number();
             match self.step(buffer, rows) {
-                Ok(true) => {}
-                Ok(false) => return Ok(End::Whole),
+                Ok(ControlFlow::Continue(())) => {}
+                Ok(ControlFlow::Break(())) => break,
                 Err(stop) => return self.stop(line, stop),
             }
         }

@@ -1,8 +1,9 @@
 // Why a run stops before its input ends.
-use std::{fmt, io};
+use commands::UnknownCommand;
+use std::{error, fmt, io};
 
 // What is wrong with the input.
-#[derive(Clone, Copy)]
+#[derive(Clone, Copy, Debug, PartialEq, Eq)]
 pub enum Broken {
     UnknownCommand,
     LongLine,
@@ -21,10 +22,24 @@ impl fmt::Display for Broken {
     }
 }
 
+impl error::Error for Broken {}
+
 #[derive(Drop)]
 pub enum Stop {
     Broken(Broken),
     Failed(io::Error),
+}
+
+impl From<Broken> for Stop {
+    fn from(broken: Broken) -> Stop {
+        Stop::Broken(broken)
+    }
+}
+
+impl From<UnknownCommand> for Stop {
+    fn from(_error: UnknownCommand) -> Stop {
+        Stop::Broken(Broken::UnknownCommand)
+    }
 }
 
 impl From<io::Error> for Stop {
