@@ -1,20 +1,19 @@
 -- The reading of a whole message, and what the code that reads it leaves.
-use Rattle.std.specs.Prelude.{◌≡◌, ℕ, ◌+◌, ◌≤◌, cond, List, [], ◌∷◌, length, drop, replicate, Some, None, Ok, Err, Option, Result, ◌==◌, nat_le, nat_lt, slice_set}
+use Rattle.std.specs.Prelude.{◌≡◌, ℕ, ◌+◌, ◌^◌, ◌<◌, ◌≤◌, cond, List, [], ◌∷◌, length, drop, replicate, Some, None, Ok, Err, Option, Result, ◌==◌, nat_le, nat_lt, slice_set}
 use Rattle.std.specs.List.{prefix_len}
 use Rattle.wire.specs.declared.row.Row.{Row}
 use Rattle.wire.specs.declared.refusal.Refusal.{Refusal}
 use Rattle.wire.specs.declared.refusal.Refusal.TheVariants.{MessageTooLong, BadByte, OpenDeclaration, TooManyRows}
 use Rattle.wire.specs.Rows.{blank_row}
 use Rattle.characters.specs.References.{is_character}
-use Rattle.parts.specs.declared.reader.Part.{Part}
 use Rattle.parts.specs.declared.reader.Token.{Token}
 use Rattle.parts.specs.declared.reader.Token.TheVariants as token
 use Rattle.parts.specs.Cutting.{Parts, ◌then◌, parts_from}
 use Rattle.parts.specs.Declarations.{declaration_len}
 use Rattle.parts.specs.Readers.{piece_of}
 use Rattle.table.specs.declared.mode.Mode.TheVariants.{Start}
+use Rattle.reader.specs.declared.run.Run.{Run}
 use Rattle.reader.specs.declared.machine.Machine.{Machine}
-use Rattle.reader.specs.Runs.{Short}
 use Rattle.reader.specs.Steps.{St, st, judge, put_at}
 use Rattle.reader.specs.Held.{state}
 
@@ -32,25 +31,20 @@ Said (Ok (st m fs u rs)) r left = (r ≡ Ok u) × (left ≡ rs)
 Said (Err e) r left = r ≡ Err e
 
 -- how a reading goes on with a run in hand, unless it was refused
-abbrev pub goes_on : Result Part Refusal → St → Parts → ℕ → Result St Refusal
+abbrev pub goes_on : Result Run Refusal → St → Parts → ℕ → Result St Refusal
 goes_on (Ok part) s ps len = judge slice_set s part.place part.bytes.now ps len
 goes_on (Err e) s ps len = Err e
 
--- and so where the token is a run, or one comes
+-- places of a run that fit a row, where the token is one
 abbrev pub ShortRun : Token → Type 0
 ShortRun (token.Open name part) = Unit {0}
 ShortRun (token.Close name part) = Unit {0}
-ShortRun (token.Run part) = Short part
-
-abbrev pub ShortThen : Result Part Refusal → Type 0
-ShortThen (Ok part) = Short part
-ShortThen (Err e) = Unit {0}
+ShortRun (token.Run part) = part.place + length part.bytes.now < 2 ^ 32
 
 -- what a machine that is fed a token, with a run in hand, leaves
-pub record Fed (m : Machine) (run : Part) (t : Token) (r : Result Part Refusal) (m' : Machine) : Type 0 where
+pub record Fed (m : Machine) (run : Run) (t : Token) (r : Result Run Refusal) (m' : Machine) : Type 0 where
   pub same_rows : m'.rows.ghost_name ≡ m.rows.ghost_name
   pub tick : m'.steps ≤ m.steps + 2
-  pub short : ShortThen r
   pub does : (ps : Parts) (len : ℕ) → judge slice_set (state m) run.place run.bytes.now (piece_of t then ps) len ≡ goes_on r (state m') ps len
 
 -- rows laid over lent ones: those that have no place are left out, and what is past them stays

@@ -1,5 +1,5 @@
 -- The row that a run gives, by where it stands and the tag behind it.
-use Rattle.std.specs.Prelude.{ℕ, ◌+◌, ◌^◌, ◌<◌, Bool, cond, List, length, ℤ, pos, Some, None, Ok, Err, Option, Result, ◌==◌}
+use Rattle.std.specs.Prelude.{ℕ, ◌+◌, Bool, cond, List, length, ℤ, pos, Some, None, Ok, Err, Option, Result, ◌==◌}
 use Rattle.std.specs.List.{prefix_len}
 use Rattle.wire.specs.declared.kind.Kind.{Kind}
 use Rattle.wire.specs.declared.kind.Kind.TheVariants as kind
@@ -19,7 +19,6 @@ use Rattle.base64_texts.specs.Base64.{is_base64}
 use Rattle.characters.specs.Checking.{counted}
 use Rattle.characters.specs.declared.check.BadCharacters.{BadCharacters}
 use Rattle.characters.specs.declared.check.BadCharacters.TheVariants.{Byte, Reference}
-use Rattle.parts.specs.declared.reader.Part.{Part}
 use Rattle.parts.specs.declared.tag.Tag.{Tag}
 use Rattle.parts.specs.declared.tag.Tag.TheVariants.{Open, Close}
 use Rattle.table.specs.declared.mode.Mode.{Mode}
@@ -32,10 +31,6 @@ use Rattle.table.specs.declared.mode.Plain.{Plain}
 use Rattle.table.specs.declared.mode.Plain.TheVariants as plain
 use Rattle.table.specs.declared.mode.StructMode.{StructMode}
 use Rattle.table.specs.declared.mode.StructMode.TheVariants as struct
-
--- places of a run that fit a row
-abbrev pub Short : Part → Type 0
-Short part = part.place + length part.bytes.now < 2 ^ 32
 
 -- a part of the message, by its place and length
 abbrev pub span_at : ℕ → ℕ → Span

@@ -5,6 +5,7 @@ mod fault;
 mod frame;
 mod machine;
 mod read;
+mod run;
 mod runs;
 mod stack;
 

@@ -3,13 +3,12 @@ ghost use Rattle.std.specs.Prelude.{◌≡◌, ℕ, ◌+◌, ◌^◌, ◌<◌, �
 ghost use Rattle.wire.specs.declared.row.Row.{Row as SomeRow};
 ghost use Rattle.table.specs.declared.mode.Mode.TheVariants.{Start};
 ghost use Rattle.reader.specs.Steps.{st, inside_of, after_of, past_of, leave, nest, unnest, named, faulted, act, step, finish};
-ghost use Rattle.reader.specs.Runs.{Short};
 ghost use Rattle.reader.specs.Moves.{LeavesRow};
 
 use crate::frame::Frame;
+use crate::run::Run;
 use crate::runs::{blank_run, must_be_blank, run_row};
 use crate::stack::Stack;
-use parts::reader::Part;
 use parts::tag::Tag;
 use table::mode::{ArrayMode, CallMode, Mode, Move, ResponseMode, Shape, StructMode, ValueMode};
 use table::moves::move_at;
@@ -229,9 +228,8 @@ impl<'r> Machine<'r> {
     }
 
     // One run and the tag behind it.
-    pub(crate) fn step(&mut self, run: Part<'_>, place: usize, tag: Tag) -> Result<(), Refusal>
-        requires room { self.old.steps + 2 < 2 ^ 32 }
-        requires short { Short run }
+    pub(crate) fn step(&mut self, run: Run<'_>, place: usize, tag: Tag) -> Result<(), Refusal>
+        requires { self.old.steps + 2 < 2 ^ 32 }
         ensures { Turn 2 self.old (step slice_set (state self.old) run.entry.place run.entry.bytes.now place tag) result self.new }
     {
         let does = move_at(self.mode, tag);
@@ -251,8 +249,7 @@ impl<'r> Machine<'r> {
     }
 
     // The end of a message of so many bytes, behind a run.
-    pub(crate) fn finish(&self, run: Part<'_>, len: usize) -> Result<(), Refusal>
-        requires { Short run }
+    pub(crate) fn finish(&self, run: Run<'_>, len: usize) -> Result<(), Refusal>
         ensures { finish slice_set (state self.now) run.entry.place run.entry.bytes.now len ≡ outcome result (state self.now) }
     {
         if self.mode != Mode::Finished {

@@ -4,11 +4,11 @@ ghost use Rattle.std.specs.List.{prefix_len};
 ghost use Rattle.texts.specs.Bytes.{within as spans};
 ghost use Rattle.reader.specs.Derivations.{DerivedIsRead, ReadIsDerived, OneMessage};
 ghost use Rattle.reader.specs.KnownCases.{KnownCases};
-ghost use Rattle.reader.specs.Runs.{Short};
 ghost use Rattle.reader.specs.Reading.{ShortRun, Fed, reading, Said, rows_of, within, left_by};
 ghost use Rattle.characters.specs.References.{is_character};
 
 use crate::machine::Machine;
+use crate::run::Run;
 use characters::Character;
 use parts::reader::{Part, Reader, Token};
 use parts::tag::Tag;
@@ -17,22 +17,18 @@ use wire::refusal::Refusal;
 use wire::row::{Row, blank_first};
 
 // Feeds a token to the machine, with the run before it in hand, and gives the run to go on with.
-fn feed<'a>(machine: &mut Machine<'_>, run: Part<'a>, token: Token<'a>) -> Result<Part<'a>, Refusal>
+fn feed<'a>(machine: &mut Machine<'_>, run: Run<'a>, token: Token<'a>) -> Result<Run<'a>, Refusal>
     requires room { machine.old.steps + 2 < 2 ^ 32 }
-    requires short { Short run }
     requires next { ShortRun token }
     ensures { Fed machine.old run.entry token.entry result machine.new }
 {
     let (place, tag) = match token {
-        Token::Run(part) => return Ok(part),
+        Token::Run(Part { place, bytes }) => return Ok(Run { place, bytes }),
         Token::Open(name, part) => (part.place, Tag::Open(name)),
         Token::Close(name, part) => (part.place, Tag::Close(name)),
     };
     machine.step(run, place, tag)?;
-    Ok(Part {
-        place: 0,
-        bytes: &run.bytes[..0],
-    })
+    Ok(Run::none())
 }
 
 // The rows of a message's parts, or the first refusal. Rows past the end of the lent ones are counted.
@@ -42,10 +38,7 @@ fn read_parts(message: &[u8], rows: &mut [Row]) -> Result<usize, Refusal>
 {
     let mut reader = Reader::new(message)?;
     let mut machine = Machine::new(rows);
-    let mut run = Part {
-        place: 0,
-        bytes: &message[..0],
-    };
+    let mut run = Run::none();
     while let Some(token) = reader.next()? {
         run = feed(&mut machine, run, token)?;
     }

@@ -1,17 +1,17 @@
 // The row that a run gives, by where it stands and the tag behind it.
 ghost use Rattle.std.specs.Prelude.{◌≡◌, ℕ, ◌+◌, ◌^◌, ◌<◌, ◌≤◌, true, List, length};
-ghost use Rattle.reader.specs.Runs.{Short, span_at, number_row, text_row, blank_run, characters_run, plain_run, words_run, call_run, value_run, struct_run, run_row};
+ghost use Rattle.reader.specs.Runs.{number_row, text_row, blank_run, characters_run, plain_run, words_run, call_run, value_run, struct_run, run_row};
 ghost use Rattle.reader.specs.Moves.{LeavesRow};
 ghost use Rattle.table.specs.Entries.{lookup, entries};
 ghost use Rattle.table.specs.declared.mode.Plain.TheVariants.{Date};
 ghost use Rattle.table.specs.declared.mode.CallMode.TheVariants.{Name as MethodName};
 
+use crate::run::Run;
 use base64_texts::check_base64;
 use characters::{BadCharacters, count_characters};
 use dates::text::read_date;
 use numbers::doubles::read_double;
 use numbers::ints::read_int;
-use parts::reader::Part;
 use parts::tag::Tag;
 use table::mode::{CallMode, Mode, Plain, StructMode, ValueMode};
 use texts::booleans::read_boolean;
@@ -19,27 +19,7 @@ use texts::bytes::{Blank, leading_of};
 use texts::methods::read_method_name;
 use wire::kind::Kind;
 use wire::refusal::Refusal;
-use wire::row::{Row, Span, Store};
-
-// A part of the message as a row holds it.
-fn span(place: usize, len: usize) -> Span
-    requires { (place < 2 ^ 32) × (len < 2 ^ 32) }
-    ensures { result ≡ span_at place len }
-{
-    Span {
-        store: Store::Message,
-        start: place as u32,
-        len: len as u32,
-    }
-}
-
-// All of a run.
-fn run_span(run: Part<'_>) -> Span
-    requires { Short run }
-    ensures { result ≡ span_at run.entry.place (length run.entry.bytes.now) }
-{
-    span(run.place, run.bytes.len())
-}
+use wire::row::{Row, Span};
 
 // A text that reads as a number.
 fn number_row(kind: Kind, number: i64, scale: u8) -> Row
@@ -66,8 +46,7 @@ fn text_row(kind: Kind, count: u32, text: Span) -> Row
 }
 
 // A run that must be blank.
-pub(crate) fn blank_run(run: Part<'_>) -> Result<Row, Refusal>
-    requires { Short run }
+pub(crate) fn blank_run(run: Run<'_>) -> Result<Row, Refusal>
     ensures { result ≡ blank_run run.entry.place run.entry.bytes.now }
 {
     let blanks = leading_of::<Blank>(run.bytes);
@@ -79,37 +58,33 @@ pub(crate) fn blank_run(run: Part<'_>) -> Result<Row, Refusal>
 }
 
 // A string or a member name.
-fn characters_run(kind: Kind, count: u32, run: Part<'_>) -> Result<Row, Refusal>
-    requires { Short run }
+fn characters_run(kind: Kind, count: u32, run: Run<'_>) -> Result<Row, Refusal>
     ensures { result ≡ characters_run kind count run.entry.place run.entry.bytes.now }
 {
     match count_characters(run.bytes) {
-        Ok(_) => Ok(text_row(kind, count, run_span(run))),
+        Ok(_) => Ok(text_row(kind, count, run.span())),
         Err(BadCharacters::Reference(at)) => Err(Refusal::BadReference(run.place + at)),
         Err(BadCharacters::Byte) => Err(Refusal::BadReference(run.place)),
     }
 }
 
-fn method_run(run: Part<'_>) -> Result<Row, Refusal>
-    requires { Short run }
+fn method_run(run: Run<'_>) -> Result<Row, Refusal>
     ensures { result ≡ call_run MethodName run.entry.place run.entry.bytes.now }
 {
     read_method_name(run.bytes).map_err(|_| Refusal::BadText(run.place))?;
-    Ok(text_row(Kind::Call, 0, run_span(run)))
+    Ok(text_row(Kind::Call, 0, run.span()))
 }
 
-fn date_run(run: Part<'_>) -> Result<Row, Refusal>
-    requires { Short run }
+fn date_run(run: Run<'_>) -> Result<Row, Refusal>
     ensures { result ≡ plain_run Date run.entry.place run.entry.bytes.now }
 {
     let blanks = leading_of::<Blank>(run.bytes);
     read_date(run.bytes).map_err(|_| Refusal::BadText(run.place))?;
-    Ok(text_row(Kind::Date, 0, span(run.place + blanks, 17)))
+    Ok(text_row(Kind::Date, 0, run.span_from(blanks, 17)))
 }
 
 // The text of a plain value.
-fn plain_run(plain: Plain, run: Part<'_>) -> Result<Row, Refusal>
-    requires { Short run }
+fn plain_run(plain: Plain, run: Run<'_>) -> Result<Row, Refusal>
     ensures { result ≡ plain_run plain run.entry.place run.entry.bytes.now }
 {
     let refused = |_| Refusal::BadText(run.place);
@@ -126,15 +101,14 @@ fn plain_run(plain: Plain, run: Part<'_>) -> Result<Row, Refusal>
             .map_err(refused),
         Plain::Date => date_run(run),
         Plain::Base64 => {
-            let row = text_row(Kind::Base64, 0, run_span(run));
+            let row = text_row(Kind::Base64, 0, run.span());
             check_base64(run.bytes).map(|_| row).map_err(refused)
         }
     }
 }
 
 // A run in a value: a string before a close tag, else blank.
-fn value_run(mode: ValueMode, tag: Tag, run: Part<'_>) -> Result<Row, Refusal>
-    requires { Short run }
+fn value_run(mode: ValueMode, tag: Tag, run: Run<'_>) -> Result<Row, Refusal>
     ensures { result ≡ value_run mode tag run.entry.place run.entry.bytes.now }
 {
     match mode {
@@ -170,8 +144,7 @@ pub(crate) fn must_be_blank(mode: Mode, tag: Tag) -> bool
 }
 
 // The row that a run gives, by where it stands and the tag behind it.
-pub(crate) fn run_row(mode: Mode, tag: Tag, run: Part<'_>) -> Result<Row, Refusal>
-    requires { Short run }
+pub(crate) fn run_row(mode: Mode, tag: Tag, run: Run<'_>) -> Result<Row, Refusal>
     ensures { result ≡ run_row mode tag run.entry.place run.entry.bytes.now }
 {
     match mode {

@@ -1,4 +1,4 @@
-use Rattle.std.proofs.Common.{[], length, drop, set, sym, refl, ap, ◌∙◌, arith, length-drop}
+use Rattle.std.proofs.Common.{length, drop, set, sym, refl, ap, ◌∙◌, arith, length-drop}
 use Rattle.parts.specs.Cutting.{part_count}
 use Rattle.parts.proofs.Turns.{few_parts}
 use Rattle.reader.specs.Steps.{judge}
@@ -12,11 +12,12 @@ loop-token-init c =
     let begun = c.in_ok-reader.ensures.parts in
     let n = begun.0 in
     let m = c.new-machine.ensures in
+    let none = c.none-run.ensures in
     let count = ap part_count begun.3 in (
+      omega (arith, none.0, ap length none.1),
       refl,
       begun.4,
       begun.2,
-      omega arith,
       omega (arith, m.steps, count, few_parts n (drop n msg), length-drop n msg, c.requires),
-      (λ i. judge set (m.state i) 0 [] (begun.3 i) (length msg)) ∙ ap (read_from set msg rs) (sym begun.1),
+      (λ i. judge set (m.state i) (none.0 i) (none.1 i) (begun.3 i) (length msg)) ∙ ap (read_from set msg rs) (sym begun.1),
     )
