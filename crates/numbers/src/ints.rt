@@ -11,12 +11,12 @@ use texts::Malformed;
 use texts::bytes::unblanked;
 
 // The largest magnitude of an int, which only the smallest one has.
-const MOST: u64 = 2_147_483_648;
+const LARGEST: u64 = 2_147_483_648;
 
-// What one or more digits are worth, where that is at most `MOST`. Not by `parse`, which takes a `&str`: each byte
+// What one or more digits are worth, where that is at most `LARGEST`. Not by `parse`, which takes a `&str`: each byte
 // would be looked at once more.
 fn read_numeral(digits: &[u8]) -> Result<u64, Malformed>
-    ensures { MatchResult result (λ n. (n ≡ worth digits.now) × ((is_numeral digits.now && nat_le (worth digits.now) MOST) ≡ true)) (λ _. (is_numeral digits.now && nat_le (worth digits.now) MOST) ≡ false) }
+    ensures { MatchResult result (λ n. (n ≡ worth digits.now) × ((is_numeral digits.now && nat_le (worth digits.now) LARGEST) ≡ true)) (λ _. (is_numeral digits.now && nat_le (worth digits.now) LARGEST) ≡ false) }
 {
     if digits.is_empty() {
         return Err(Malformed);
@@ -27,7 +27,7 @@ fn read_numeral(digits: &[u8]) -> Result<u64, Malformed>
             return Err(Malformed);
         }
         n = n * 10 + u64::from(*digit - b'0');
-        if n > MOST {
+        if n > LARGEST {
             return Err(Malformed);
         }
     }

@@ -6,7 +6,7 @@ use Rattle.std.proofs.lemmas.Bool.{ne_eqb, lt-leb, eq-eqb, le-leb, and_right, an
 use Rattle.std.proofs.lemmas.Bool.Decides.{nat_tests}
 use Rattle.texts.specs.Digits.{is_digit, worth, worth_after}
 use Rattle.texts.proofs.Numerals.{worth_after-ge}
-use Rattle.numbers.specs.declared.ints.TheConstants.{MOST}
+use Rattle.numbers.specs.declared.ints.TheConstants.{LARGEST}
 use Rattle.numbers.proofs.ints.read_numeral.Goals as goal
 
 pub returns-then-not-is_ascii_digit : goal.returns-then-not-is_ascii_digit
@@ -27,18 +27,18 @@ loop-digit-preserved c =
     let n = c.loop-digit.n in
     let go = prefix_len-drop_yes is_digit ds i 0 (omega arith) (sym c.if-not-is_ascii_digit.ensures.value) in (
       ap (λ d. worth_after (n * 10 + d) (drop (i + 1) ds)) c.from.ensures ∙ sym (at_drop_more (worth_after n) ds i 0 (omega arith)) ∙ c.loop-digit.invariant.0,
-      c.if-n-gt-MOST.false,
+      c.if-n-gt-LARGEST.false,
       omega (arith, go, c.loop-digit.invariant.2),
     )
 
-pub returns-then-n-gt-MOST : goal.returns-then-n-gt-MOST
-returns-then-n-gt-MOST c =
+pub returns-then-n-gt-LARGEST : goal.returns-then-n-gt-LARGEST
+returns-then-n-gt-LARGEST c =
     let ds = c.args.digits.now in
     let i = c.loop-digit.digit-index in
     let n = c.loop-digit.n in
     let whole : worth_after (n * 10 + c.from.result) (drop (i + 1) ds) ≡ worth ds = ap (λ d. worth_after (n * 10 + d) (drop (i + 1) ds)) c.from.ensures ∙ sym (at_drop_more (worth_after n) ds i 0 (omega arith)) ∙ c.loop-digit.invariant.0 in
     let more = worth_after-ge (n * 10 + c.from.result) (drop (i + 1) ds) in
-    and_right _ _ (lt-leb (worth ds) MOST (omega (arith, whole, more, c.if-n-gt-MOST.true)))
+    and_right _ _ (lt-leb (worth ds) LARGEST (omega (arith, whole, more, c.if-n-gt-LARGEST.true)))
 
 pub returns : goal.returns
 returns c =
