@@ -1,9 +1,8 @@
 -- A text read byte by byte: what one more byte in front does to its letters and its padding.
-use Rattle.std.proofs.Common.{◌≡◌, ℕ, ◌+◌, ◌≤◌, Bool, true, false, cond, List, [], ◌∷◌, map, length, take, drop, sym, refl, ap, ◌∙◌, ⊎_elim, one-add, arith}
+use Rattle.std.proofs.Common.{◌≡◌, ℕ, ◌+◌, ◌≤◌, Bool, true, false, cond, List, [], ◌∷◌, map, length, take, drop, sym, ap, ◌∙◌, one-add, arith}
 use Rattle.std.specs.List.{prefix_len}
 use Rattle.std.proofs.lemmas.Bool.Decides.{nat_tests}
-use Rattle.std.proofs.lemmas.Bool.{cases_Bool}
-use Rattle.texts.specs.Bytes.{is_blank, after_blanks}
+use Rattle.texts.specs.Bytes.{is_blank}
 use Rattle.base64_texts.specs.Base64.{is_letter, sextet, nonblank, padding, sextets, last_or}
 
 -- no letter is a blank
@@ -35,46 +34,11 @@ front_of bs = take (prefix_len is_letter bs) bs
 abbrev rest_of : List ℕ → List ℕ
 rest_of bs = drop (prefix_len is_letter bs) bs
 
-pub sextets_skip : (b : ℕ) (t : List ℕ) → is_blank b ≡ true → sextets (b ∷ t) ≡ sextets t
-sextets_skip b t h = ap (λ bs. map sextet (front_of bs)) (nonblank_skip b t h)
-
 pub sextets_letter : (b : ℕ) (t : List ℕ) → is_letter b ≡ true → sextets (b ∷ t) ≡ sextet b ∷ sextets t
 sextets_letter b t h = ap (λ bs. map sextet (front_of bs)) (nonblank_keep b t (letter_shown b h)) ∙ ap (map sextet) (front_yes is_letter b (nonblank t) h)
 
-pub sextets_stop : (b : ℕ) (t : List ℕ) → is_blank b ≡ false → is_letter b ≡ false → sextets (b ∷ t) ≡ []
-sextets_stop b t h k = ap (λ bs. map sextet (front_of bs)) (nonblank_keep b t h) ∙ ap (map sextet) (front_no is_letter b (nonblank t) k)
-
 pub padding_letter : (b : ℕ) (t : List ℕ) → is_letter b ≡ true → padding (b ∷ t) ≡ padding t
 padding_letter b t h = ap rest_of (nonblank_keep b t (letter_shown b h)) ∙ rest_yes is_letter b (nonblank t) h
-
--- blanks in front say nothing, and behind them stands no blank
-pub sextets_blanks : (t : List ℕ) → sextets (after_blanks t) ≡ sextets t
-sextets_blanks [] = refl
-sextets_blanks (b ∷ t) = ⊎_elim
-    (λ yes. ap sextets (rest_yes is_blank b t yes) ∙ sextets_blanks t ∙ sym (sextets_skip b t yes))
-    (λ other. ap sextets (rest_no is_blank b t other))
-    (cases_Bool (is_blank b))
-
-pub blanks_end : (t : List ℕ) (b : ℕ) (bs : List ℕ) → after_blanks t ≡ b ∷ bs → is_blank b ≡ false
-blanks_end [] b bs e = let none : length (b ∷ bs) ≡ 0 = ap length (sym e) in absurd (omega arith)
-blanks_end (x ∷ t) b bs e = ⊎_elim
-    (λ yes. blanks_end t b bs (sym (rest_yes is_blank x t yes) ∙ e))
-    (λ other. let here : x ∷ t ≡ b ∷ bs = sym (rest_no is_blank x t other) ∙ e in let same : b ≡ x = cc in ap is_blank same ∙ other)
-    (cases_Bool (is_blank x))
-
--- the letter that comes next, behind blanks
-module _ (t : List ℕ) where
-  pub ahead_none : length (after_blanks t) ≡ 0 → sextets t ≡ []
-  ahead_none h = sym (sextets_blanks t) ∙ none (after_blanks t) h where
-    none : (bs : List ℕ) → length bs ≡ 0 → sextets bs ≡ []
-    none [] h = refl
-    none (b ∷ bs) h = absurd (omega arith)
-
-  pub ahead_stop : (b : ℕ) (bs : List ℕ) → after_blanks t ≡ b ∷ bs → is_letter b ≡ false → sextets t ≡ []
-  ahead_stop b bs e other = sym (sextets_blanks t) ∙ ap sextets e ∙ sextets_stop b bs (blanks_end t b bs e) other
-
-  pub ahead_letter : (b : ℕ) (bs : List ℕ) → after_blanks t ≡ b ∷ bs → is_letter b ≡ true → sextets t ≡ sextet b ∷ sextets bs
-  ahead_letter b bs e is = sym (sextets_blanks t) ∙ ap sextets e ∙ sextets_letter b bs is
 
 -- a text is read up to where the rest of it begins: n letters, the last worth s
 pub record Scanned (text : List ℕ) (n s : ℕ) (rest : List ℕ) : Type 0 where

@@ -1,16 +1,15 @@
 // The text of a <base64> element: checking, decoding byte by byte, and the canonical spelling.
 #![tactic(auto)]
 
-ghost use Rattle.std.specs.Prelude.{◌≡◌, ◌+◌, ◌%◌, ◌^◌, ◌<◌, ◌≤◌, true, false, ◌&&◌, [], ◌∷◌, ◌++◌, length, drop, Decides, MatchOption, MatchResult, ◌==◌, nat_le, slice_index};
+ghost use Rattle.std.specs.Prelude.{◌≡◌, ◌+◌, ◌%◌, ◌^◌, ◌<◌, ◌≤◌, true, false, ◌&&◌, [], ◌∷◌, ◌++◌, length, drop, Decides, MatchOption, MatchResult, ◌==◌, nat_le};
 ghost use Rattle.std.specs.List.{prefix_len};
-ghost use Rattle.texts.specs.Bytes.{is_blank};
 ghost use Rattle.texts.specs.Pages.{Writes};
 ghost use Rattle.base64_texts.specs.Base64.{is_letter, is_pad, sextet, letter as letterOf, nonblank, sextets, padding, last_or, decoded, is_base64, base64_spelling, SpellsBytes};
 ghost use Rattle.base64_texts.specs.Cursor.{ahead, left as bytesLeft};
 ghost use Rattle.std.specs.Iterator.{YieldsFirst, item_count};
 
 use texts::Malformed;
-use texts::bytes::{Blank, Class, leading_of};
+use texts::bytes::{Blank, Class};
 
 fn is_letter(byte: u8) -> bool
     ensures { result ≡ is_letter byte }
@@ -18,7 +17,7 @@ fn is_letter(byte: u8) -> bool
     matches!(byte, b'A'..=b'Z' | b'a'..=b'z') || matches!(byte, b'0'..=b'9' | b'+' | b'/')
 }
 
-// What a letter of the alphabet is worth.
+// What a letter is worth.
 fn worth(letter: u8) -> u8
     ensures { result ≡ sextet letter }
 {
@@ -29,13 +28,6 @@ fn worth(letter: u8) -> u8
         b'+' => 62,
         _ => 63,
     }
-}
-
-// The same; nothing for any other byte.
-fn sextet_of(byte: u8) -> Option<u8>
-    ensures { MatchOption result (is_letter byte ≡ false) (λ s. (is_letter byte ≡ true) × (s ≡ sextet byte)) }
-{
-    is_letter(byte).then(|| worth(byte))
 }
 
 // The letter worth `value`.
@@ -152,15 +144,22 @@ impl<'a> Decoded<'a> {
     }
 
     // Reads the next letter.
+    #[tactic(auto, using(crate::proofs::Scan::sextets_letter, crate::proofs::Groups::sextet_below))]
     fn next_sextet(&mut self) -> Option<u8>
         ensures sextets { MatchOption result ((ahead self.old ≡ []) × (ahead self.new ≡ [])) (λ s. (s < 64) × (ahead self.old ≡ s ∷ ahead self.new)) }
         ensures held { self.new.held ≡ self.old.held }
     {
-        let blanks = leading_of::<Blank>(self.rest);
-        let (letter, behind) = self.rest[blanks..].split_first()?;
-        let value = sextet_of(*letter)?;
-        self.rest = behind;
-        Some(value)
+        while let Some((byte, behind)) = self.rest.split_first() {
+            if is_letter(*byte) {
+                self.rest = behind;
+                return Some(worth(*byte));
+            }
+            if !Blank::has(*byte) {
+                break;
+            }
+            self.rest = behind;
+        }
+        None
     }
 }
 

@@ -1,5 +1,5 @@
 // Characters written in their canonical form.
-ghost use Rattle.std.specs.Prelude.{◌≡◌, ◌+◌, ◌^◌, ◌≤◌, true, ◌++◌, length, take, drop, MatchOption};
+ghost use Rattle.std.specs.Prelude.{◌≡◌, ◌+◌, ◌^◌, ◌≤◌, true, ◌++◌, length, drop, MatchOption};
 ghost use Rattle.characters.specs.References.{all_characters};
 ghost use Rattle.characters.specs.Spelling.{reference_for, escape, characters_spelling, ReadsBack};
 ghost use Rattle.std.specs.Option.{option_map};

@@ -1,5 +1,5 @@
 // Writing a row with all its parts.
-ghost use Rattle.std.specs.Prelude.{◌≡◌, ℕ, ◌+◌, ◌<◌, ◌≤◌, List, ◌++◌, length, drop, slice_index_or};
+ghost use Rattle.std.specs.Prelude.{◌≡◌, ◌+◌, ◌<◌, ◌≤◌, List, ◌++◌, length, drop, slice_index_or};
 ghost use Rattle.wire.specs.Trees.{Content};
 ghost use Rattle.held.specs.Told.{no_row, facts_of};
 ghost use Rattle.writer.specs.Pages.{Put};
