@@ -1,5 +1,5 @@
 // A whole message: its rows, or its first refusal.
-ghost use Rattle.std.specs.Prelude.{◌≡◌, ◌≤◌, length, IfOk, MatchOption};
+ghost use Rattle.std.specs.Prelude.{◌≡◌, ◌≤◌, length, IfOk, MatchResult};
 ghost use Rattle.wire.specs.Levels.{level_number, rows_at};
 ghost use Rattle.wire.specs.Trees.{Message};
 ghost use Rattle.reader.specs.Derivations.{Say};
@@ -12,19 +12,19 @@ use wire::level::Level;
 use wire::refusal::Refusal;
 use wire::row::{Row, blank_first};
 
-// What is wrong with the rows of a message that the grammar derives, if anything is.
-fn flaw(message: &[u8], rows: &[Row]) -> Option<Refusal>
+// Whether rows that the grammar derives are a message, or else what is wrong with them.
+fn judge(message: &[u8], rows: &[Row]) -> Result<(), Refusal>
     requires few { length rows.now ≤ 4096 }
     requires said { (m : Message) × Say message.now rows.now m }
-    ensures { MatchOption result (Sound message.now rows.now) (λ e. Flawed message.now rows.now e) }
+    ensures { MatchResult result (λ _. Sound message.now rows.now) (λ e. Flawed message.now rows.now e) }
 {
     if let Some(i) = first_repeat(message, rows) {
-        return Some(Refusal::RepeatedName(rows[i].text.start as usize));
+        return Err(Refusal::RepeatedName(rows[i].text.start as usize));
     }
     if !fault_fits(message, rows) {
-        return Some(Refusal::BadFault);
+        return Err(Refusal::BadFault);
     }
-    None
+    Ok(())
 }
 
 // The rows of a message, or the first refusal, with all of the lent rows.
@@ -33,12 +33,12 @@ fn read_within(message: &[u8], rows: &mut [Row]) -> Result<usize, Refusal>
     ensures { Answer (length rows.old) message.now rows.old result rows.new }
 {
     let used = read_rows(message, rows)?;
-    let Some(refusal) = flaw(message, &rows[..used]) else {
-        return Ok(used);
-    };
-    let all = rows.len();
-    blank_first(rows, all);
-    Err(refusal)
+    if let Err(refusal) = judge(message, &rows[..used]) {
+        let all = rows.len();
+        blank_first(rows, all);
+        return Err(refusal);
+    }
+    Ok(used)
 }
 
 // The rows of a message at a level, or its first refusal. It is accepted exactly when it is a message

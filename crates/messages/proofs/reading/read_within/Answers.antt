@@ -15,8 +15,8 @@ returns-in_err-used c =
     let p = err_from_is_err_and c.from_residual.result c.from_residual.ensures.1 in
     rw (p.1, p.2) (refused_answer msg old c.read_rows.new.rows c.in_err-used.field-0.0 read.value read.rows)
 
-pub flaw-requires : goal.flaw-requires
-flaw-requires c =
+pub judge-requires : goal.judge-requires
+judge-requires c =
     let msg = c.args.message.now in
     let old = c.args.rows.now in
     let left = c.read_rows.new.rows in
@@ -27,16 +27,6 @@ flaw-requires c =
     let d = read_is_derived msg r.rs r.reads in
     record { few = omega (arith, ap length rows, r.fits, c.requires); said = (d.0, subst (λ l. Say msg l d.0) (sym rows) d.2) }
 
-pub returns-in_default : goal.returns-in_default
-returns-in_default c =
-    let msg = c.args.message.now in
-    let old = c.args.rows.now in
-    let left = c.read_rows.new.rows in
-    let n = c.in_ok-used.used in
-    let read = c.in_ok-used.ensures in
-    let r = was_read msg old left n read.value in
-    accepted_answer msg old left n r read.rows c.in_default.ensures
-
 pub returns : goal.returns
 returns c =
     let msg = c.args.message.now in
@@ -45,7 +35,17 @@ returns c =
     let n = c.in_ok-used.used in
     let read = c.in_ok-used.ensures in
     let r = was_read msg old left n read.value in
-    let e = c.in-Some.refusal in
+    accepted_answer msg old left n r read.rows c.in_default.ensures
+
+pub returns-in-Err : goal.returns-in-Err
+returns-in-Err c =
+    let msg = c.args.message.now in
+    let old = c.args.rows.now in
+    let left = c.read_rows.new.rows in
+    let n = c.in_ok-used.used in
+    let read = c.in_ok-used.ensures in
+    let r = was_read msg old left n read.value in
+    let e = c.in-Err.refusal in
     let long : length left ≡ length old = omega (arith, c.read_rows.auto.rows) in
-    flawed_answer msg old left n r read.rows e c.blank_first.new.memory c.in-Some.ensures
+    flawed_answer msg old left n r read.rows e c.blank_first.new.memory c.in-Err.ensures
     (c.blank_first.ensures ∙ all_cleared blank_row (length left) left refl ∙ ap (λ k. replicate k blank_row) long)

@@ -5,7 +5,7 @@ use Rattle.reader.specs.Contents.{content_of}
 use Rattle.messages.specs.Answers.{name_repeats, bad_fault}
 use Rattle.messages.specs.Repeats.{RepeatAt}
 use Rattle.messages.proofs.HoldStructs.{structs_hold}
-use Rattle.messages.proofs.reading.flaw.Goals as goal
+use Rattle.messages.proofs.reading.judge.Goals as goal
 
 pub first_repeat-requires : goal.first_repeat-requires
 first_repeat-requires c = record { few = c.requires.few; held = structs_hold c.args.message.now c.args.rows.now c.requires.said.0 c.requires.said.1 }
