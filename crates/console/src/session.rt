@@ -9,9 +9,9 @@ use frames::{LONGEST, admit};
 use messages::read;
 use outcomes::{Accepted, Refused};
 use std::alloc::Global;
-use std::io;
 use std::io::{BufReader, BufWriter, Read, Write};
 use std::ops::ControlFlow;
+use std::{fmt, io};
 use totals::Totals;
 use wire::level::Level;
 use wire::refusal::Refusal;
@@ -32,20 +32,22 @@ pub enum End {
 }
 
 impl<R: Read, W: Write> Session<R, W> {
+    // Says what a message came to.
+    fn say(&mut self, outcome: &impl fmt::Display) -> io::Result<()> {
+        write!(self.output, "{outcome}")?;
+        self.output.flush()
+    }
+
     // Says that a message was read, into which rows, and counts it.
     fn accept(&mut self, message: &[u8], rows: &[Row]) -> io::Result<()> {
         self.totals.accept();
-        let accepted = Accepted { message, rows };
-        write!(self.output, "{accepted}")?;
-        self.output.flush()
+        self.say(&Accepted { message, rows })
     }
 
     // Says that a message was refused, and counts it.
     fn refuse(&mut self, refusal: Refusal) -> io::Result<()> {
         self.totals.refuse(refusal);
-        let refused = Refused(refusal);
-        write!(self.output, "{refused}")?;
-        self.output.flush()
+        self.say(&Refused(refusal))
     }
 
     // Takes a message of a length, reads it at a level, and says what it came to.
