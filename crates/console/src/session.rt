@@ -5,7 +5,7 @@ use crate::input::Input;
 use crate::stop::{Broken, Stop};
 use anyhow::anyhow;
 use commands::Command;
-use frames::{LONGEST, admit};
+use frames::admit;
 use messages::read;
 use outcomes::{Accepted, Refused};
 use std::alloc::Global;
@@ -14,9 +14,10 @@ use std::ops::ControlFlow;
 use std::{fmt, io};
 use totals::Totals;
 use wire::level::Level;
-use wire::refusal::Refusal;
+use wire::refusal::{LONGEST, Refusal};
 use wire::row::Row;
 
+// The buffer and the rows go beside it: what a message in them came to is said while the session changes.
 #[derive(Drop)]
 struct Session<R, W> {
     input: Input<R>,

@@ -4,10 +4,7 @@
 ghost use Rattle.frames.specs.Frames.{Admits};
 
 use wire::level::Level;
-use wire::refusal::Refusal;
-
-// The longest message that is read.
-pub const LONGEST: usize = 65_536;
+use wire::refusal::{LONGEST, Refusal};
 
 // The level at which a message of a length is read, or why it is refused unseen.
 pub fn admit(level: usize, length: usize) -> Result<Level, Refusal>

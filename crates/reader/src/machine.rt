@@ -16,7 +16,8 @@ use wire::refusal::Refusal;
 use wire::row::Row;
 
 // The lent rows, where the reading stands, what is open, how many rows there are, also past the end of the lent ones,
-// and how many steps were made, which bounds what is counted.
+// and how many steps were made, which bounds what is counted. That a method has room for its steps is no fact of the
+// type, since each step takes of it: callers ask for it.
 #[derive(Drop)]
 pub(crate) struct Machine<'r> {
     rows: &'r mut [Row],

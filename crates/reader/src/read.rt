@@ -13,7 +13,7 @@ use characters::Character;
 use parts::reader::{Part, Reader, Token};
 use parts::tag::Tag;
 use texts::bytes::{Class, all_of, leading_of};
-use wire::refusal::Refusal;
+use wire::refusal::{LONGEST, Refusal};
 use wire::row::{Row, blank_first};
 
 // Feeds a token to the machine, with the run before it in hand, and gives the run to go on with.
@@ -39,15 +39,13 @@ fn read_parts(message: &[u8], rows: &mut [Row]) -> Result<usize, Refusal>
     let mut reader = Reader::new(message)?;
     let mut machine = Machine::new(rows);
     let mut run = Run::none();
+    // A reader is no iterator: behind a refusal it gives the same one again, without end.
     while let Some(token) = reader.next()? {
         run = feed(&mut machine, run, token)?;
     }
     machine.finish(run, message.len())?;
     Ok(machine.used())
 }
-
-// The longest message that is read.
-const LONGEST: usize = 65_536;
 
 // The bytes that most messages are made of: no tabs and no carriage returns, so that fewer tests tell them.
 pub struct UsualByte;

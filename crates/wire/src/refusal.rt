@@ -2,6 +2,9 @@
 ghost use Rattle.std.specs.Prelude.{◌≡◌};
 ghost use Rattle.wire.specs.Refusals.{told};
 
+// The longest message that is not refused as too long.
+pub const LONGEST: usize = 65_536;
+
 // One case for each number, in their order; each holds its place where it has one.
 #[derive(Clone, Copy, Debug, PartialEq, Eq)]
 pub enum Refusal {

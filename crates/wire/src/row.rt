@@ -84,6 +84,7 @@ pub fn blank_first<T: Blank>(memory: &mut [T], n: usize)
     ensures { memory.new ≡ cleared T.Blank.blank n memory.old }
 {
     let n = n.min(memory.len());
+    // `fill` asks for a law of `clone` that the bound `Copy` does not bring.
     for place in &mut memory[..n] {
         *place = T::blank();
     }
