@@ -28,10 +28,6 @@ parts_by (next.Close t) p bs = tag t.place (tags.Close t.name) then parts_from p
 unfoldable pub parts_left : Reader → Parts
 parts_left r = parts_by r.next r.at (drop r.at r.message.now)
 
--- a reader does not stand past the end of its message
-abbrev pub Inside : Reader → Type 0
-Inside r = r.at ≤ length r.message.now
-
 -- a run does not reach past the end of a message of so many bytes
 abbrev pub RunInside : ℕ → Result (Option Token) Refusal → Type 0
 RunInside n (Ok (Some (token.Open name part))) = Unit {0}
@@ -57,7 +53,7 @@ TokenBorrows r (Err e) = Unit {0}
 
 -- a reader starts behind the declaration, with all parts from there on; an open declaration is refused
 abbrev pub Begins : List ℕ → Result Reader Refusal → Type 0
-Begins msg (Ok r) = (n : ℕ) × (declaration_len msg ≡ Some n) × (r.message.now ≡ msg) × (parts_left r ≡ parts_from n (drop n msg)) × Inside r
+Begins msg (Ok r) = (n : ℕ) × (declaration_len msg ≡ Some n) × (r.message.now ≡ msg) × (parts_left r ≡ parts_from n (drop n msg))
 Begins msg (Err e) = (declaration_len msg ≡ None) × (e ≡ OpenDeclaration)
 
 -- what a reader gives is the first of the parts that were left; or none is left; or a `<` begins no tag

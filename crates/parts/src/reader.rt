@@ -28,7 +28,7 @@ pub enum Token<'a> {
 impl<'a> Token<'a> {
     ghost use Rattle.parts.specs.Readers.{piece_of, part_of};
 
-    // A tag as a token.
+    // A tag as a token. `From` would take the two as a pair.
     fn of_tag(tag: Tag, part: Part<'a>) -> Token<'a>
         ensures piece { piece_of result ≡ tagPiece part.entry.place tag }
         ensures part { part_of result ≡ part.entry }
@@ -78,7 +78,7 @@ impl Class for RunByte {
 }
 
 impl<'a> Reader<'a> {
-    ghost use Rattle.parts.specs.Readers.{parts_left, TokenBorrows, Inside, RunInside, Begins, Gives};
+    ghost use Rattle.parts.specs.Readers.{parts_left, TokenBorrows, RunInside, Begins, Gives};
 
     // A reader at the first run of a message, behind its declaration.
     pub fn new(message: &'a [u8]) -> Result<Reader<'a>, Refusal>
@@ -118,7 +118,7 @@ impl<'a> Reader<'a> {
         requires { self.old.next ≡ TagNext }
         ensures same { self.new.message ≡ self.old.message }
         ensures gives { Gives (parts_left self.old) result (parts_left self.new) }
-        ensures inside { Inside self.old → Inside self.new × RunInside (length self.old.message.now) result }
+        ensures inside { RunInside (length self.old.message.now) result }
         ensures borrows { TokenBorrows self.new result }
     {
         let message = self.message;
@@ -126,6 +126,7 @@ impl<'a> Reader<'a> {
         let [_, behind @ ..] = &message[place..] else {
             return Ok(None);
         };
+        // As `ok_or(..)?` it is no shorter, and its proof is about the error's conversion.
         let Some(spelling) = tag_of(behind) else {
             return Err(Refusal::NotATag(place));
         };
@@ -148,7 +149,7 @@ impl<'a> Reader<'a> {
     pub fn next(&mut self) -> Result<Option<Token<'a>>, Refusal>
         ensures same { self.new.message ≡ self.old.message }
         ensures gives { Gives (parts_left self.old) result (parts_left self.new) }
-        ensures inside { Inside self.old → Inside self.new × RunInside (length self.old.message.now) result }
+        ensures inside { RunInside (length self.old.message.now) result }
         ensures borrows { TokenBorrows self.new result }
     {
         match self.next {

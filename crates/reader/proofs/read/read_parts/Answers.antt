@@ -16,7 +16,6 @@ loop-token-init c =
     let count = ap part_count begun.3 in (
       omega (arith, none.0, ap length none.1),
       refl,
-      begun.4,
       begun.2,
       omega (arith, m.steps, count, few_parts n (drop n msg), length-drop n msg, c.requires),
       (λ i. judge set (m.state i) (none.0 i) (none.1 i) (begun.3 i) (length msg)) ∙ ap (read_from set msg rs) (sym begun.1),

@@ -22,7 +22,7 @@ returns-in_default c =
     let msg = c.args.self.now.message.now in
     let at = c.args.self.now.at in
     let end : length msg ≤ at = omega (arith, c.in_default.len_below, long msg at) in
-    record { same = refl; gives = (ap (λ n. parts_by n at (drop at msg)) c.requires ∙ at_end msg at end, refl); inside = λ h. (h, tt); borrows = tt }
+    record { same = refl; gives = (ap (λ n. parts_by n at (drop at msg)) c.requires ∙ at_end msg at end, refl); inside = tt; borrows = tt }
 
 pub returns-in_default-tag_of : goal.returns-in_default-tag_of
 unfolding parts_left
@@ -31,7 +31,7 @@ returns-in_default-tag_of c =
     let at = c.args.self.now.at in
     let none = ap tag_of (sym (behind msg at)) ∙ sym c.in_default-tag_of.ensures.value in
     let more : at < length msg = omega (arith, c.in-len1-up.len_at_least, long msg at) in
-    record { same = refl; gives = (at, ap (λ n. parts_by n at (drop at msg)) c.requires ∙ at_stray msg at more none, refl, refl); inside = λ h. (h, tt); borrows = tt }
+    record { same = refl; gives = (at, ap (λ n. parts_by n at (drop at msg)) c.requires ∙ at_stray msg at more none, refl, refl); inside = tt; borrows = tt }
 
 pub returns : goal.returns
 unfolding parts_left
@@ -49,6 +49,6 @@ returns c =
     record {
       same = refl;
       gives = ap (λ n. parts_by n at (drop at msg)) c.requires ∙ at_tag msg at more s c.if-spelling.self found way ∙ ap (λ t. t then parts_by c.if-spelling.self (at + 1 + s.len) (drop (at + 1 + s.len) msg)) (sym piece);
-      inside = λ h. (omega (arith, c.in-Some.ensures.within, ap length (behind msg at), length-drop (at + 1) msg), tag_inside c.of_tag.result at s.tag (length msg) piece);
+      inside = tag_inside c.of_tag.result at s.tag (length msg) piece;
       borrows = subst (λ (p : Part). p.bytes.now ≡ take (at + 1 + s.len - p.place) (drop p.place msg)) (sym c.of_tag.ensures.part) refl;
     }

@@ -5,7 +5,7 @@ use Rattle.parts.proofs.reader.Reader.new.Goals as goal
 
 pub returns-in-Some : goal.returns-in-Some
 unfolding parts_left
-returns-in-Some c = record { parts = (c.in-Some.at, sym c.in-Some.ensures.value, refl, refl, c.in-Some.ensures.within); one_way = one_way }
+returns-in-Some c = record { parts = (c.in-Some.at, sym c.in-Some.ensures.value, refl, refl); one_way = one_way }
 
 pub returns-in-None : goal.returns-in-None
 returns-in-None c = record { parts = (sym c.in-None.ensures.value, refl); one_way = one_way }

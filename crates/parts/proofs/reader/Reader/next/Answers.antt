@@ -1,4 +1,4 @@
-use Rattle.std.proofs.Common.{◌≡◌, ℕ, ◌-◌, List, length, take, drop, sym, refl, ap, ◌∙◌, arith, length-drop, Bor}
+use Rattle.std.proofs.Common.{◌≡◌, ◌-◌, length, take, drop, sym, refl, ap, ◌∙◌, arith, length-drop}
 use Rattle.std.specs.List.{prefix_len}
 use Rattle.std.proofs.lemmas.List.{length-take-le}
 use Rattle.std.proofs.lemmas.List.Sums.{prefix_len-le-length}
@@ -21,12 +21,11 @@ returns-in-Run c =
           ap (λ n. parts_by n at (drop at msg)) c.in-Run.is
           ∙ at_run msg at after.at c.cut_run.ensures.at
           ∙ (λ i. run (sym c.cut_run.ensures.place i) (sym c.cut_run.ensures.bytes i) then sym left i);
-      inside = λ h.
+      inside =
           let all = prefix_len-le-length in_run (drop at msg) in
           let long = length-drop at msg in
-          let same = ap (λ (m : Bor (List ℕ)). length m.now) c.cut_run.ensures.same in
           let short = ap length c.cut_run.ensures.bytes ∙ length-take-le (prefix_len in_run (drop at msg)) (drop at msg) all in
-          (omega (arith, c.cut_run.ensures.at, same), omega (arith, short, c.cut_run.ensures.place));
+          omega (arith, short, c.cut_run.ensures.place, c.args.self.now.inside);
       borrows =
           let long : prefix_len in_run (drop at msg) ≡ after.at - c.cut_run.result.place = omega (arith, c.cut_run.ensures.at, c.cut_run.ensures.place) in
           c.cut_run.ensures.bytes ∙ (λ i. take (long i) (drop (sym c.cut_run.ensures.place i) (sym c.cut_run.ensures.same i).now));
@@ -37,11 +36,11 @@ unfolding parts_left
 returns-in-EmptyRun c =
     let msg = c.args.self.now.message.now in
     let at = c.args.self.now.at in
-    record { same = refl; gives = ap (λ n. parts_by n at (drop at msg)) c.in-EmptyRun.is; inside = λ h. (h, omega arith); borrows = ap (λ k. take k (drop at msg)) (let none : 0 ≡ at - at = omega arith in none) }
+    record { same = refl; gives = ap (λ n. parts_by n at (drop at msg)) c.in-EmptyRun.is; inside = omega (arith, c.args.self.now.inside); borrows = ap (λ k. take k (drop at msg)) (let none : 0 ≡ at - at = omega arith in none) }
 
 pub returns-in-Close : goal.returns-in-Close
 unfolding parts_left
 returns-in-Close c =
     let msg = c.args.self.now.message.now in
     let at = c.args.self.now.at in
-    record { same = refl; gives = ap (λ n. parts_by n at (drop at msg)) c.in-Close.is; inside = λ h. (h, tt); borrows = refl }
+    record { same = refl; gives = ap (λ n. parts_by n at (drop at msg)) c.in-Close.is; inside = tt; borrows = refl }
