@@ -1,8 +1,9 @@
 -- Tests that every byte of a text passes.
-use Rattle.std.proofs.Common.{◌≡◌, ℕ, ◌+◌, Bool, true, false, not, eqb, List, [], ◌∷◌, length, refl, ◌∙◌, ⊎_elim, arith}
+use Rattle.std.proofs.Common.{◌≡◌, ℕ, ◌+◌, Bool, true, false, not, eqb, List, [], ◌∷◌, length, ⊎_elim, arith}
 use Rattle.std.specs.List.{prefix_len, AllByRecursion}
 use Rattle.std.proofs.ByRecursion.{All-weaker}
 use Rattle.std.proofs.lemmas.Bool.{cases_Bool, eqb-true, eqb-false, eq-eqb, not-true}
+use Rattle.texts.proofs.Fronts.{leading_all}
 use Rattle.characters.specs.References.{is_character, all_characters}
 use Rattle.characters.specs.Decoding.{body_len}
 
@@ -14,17 +15,13 @@ all_from_leading p (b ∷ bs) h =
     (λ (e : p b ≡ false). let s : prefix_len p (b ∷ bs) ≡ 0 = simp e in absurd (omega arith))
     (cases_Bool (p b))
 
-leading_from_all : (p : ℕ → Bool) (bs : List ℕ) → AllByRecursion (λ b. p b ≡ true) bs → prefix_len p bs ≡ length bs
-leading_from_all p [] h = refl
-leading_from_all p (b ∷ bs) h = let s : prefix_len p (b ∷ bs) ≡ 1 + prefix_len p bs = simp h.0 in let ih = leading_from_all p bs h.1 in s ∙ omega arith
-
 pub all_from_test : (bs : List ℕ) → all_characters bs ≡ true → AllByRecursion (λ b. is_character b ≡ true) bs
 unfolding all_characters
 all_from_test bs h = all_from_leading is_character bs (eqb-true _ _ h)
 
 pub test_from_all : (bs : List ℕ) → AllByRecursion (λ b. is_character b ≡ true) bs → all_characters bs ≡ true
 unfolding all_characters
-test_from_all bs h = eq-eqb _ _ (leading_from_all is_character bs h)
+test_from_all bs h = eq-eqb _ _ (leading_all is_character bs h)
 
 -- no `;` stands in what is its own body
 pub without_end : (body : List ℕ) → body_len body ≡ length body → AllByRecursion (λ b. b ≡ 59 → ⊥) body

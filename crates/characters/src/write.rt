@@ -65,6 +65,7 @@ pub fn write_characters(plain: &[u8], page: &mut [u8]) -> Option<usize>
     if len > page.len() {
         return None;
     }
+    // The place is counted along, since the characters take one to five bytes each.
     let mut at = 0;
     for b in plain {
         at += put(*b, &mut page[at..]);

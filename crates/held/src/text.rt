@@ -7,7 +7,8 @@ use base64_texts::Decoded;
 use characters::Characters;
 use std::slice::Iter;
 
-// A text as it is stored, and how it is read: as it stands, with references, or as base64.
+// A text as it is stored, and how it is read: as it stands, with references, or as base64. Which of the three it is
+// shows when a row is asked for, so the cursors share an enum.
 #[derive(Drop)]
 pub enum Text<'a> {
     Plain(Iter<'a, u8>),
