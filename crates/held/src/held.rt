@@ -9,7 +9,7 @@ use crate::text::Text;
 use wire::kind::Kind;
 
 // A row but for its text.
-#[derive(Clone, Copy)]
+#[derive(Clone, Copy, Debug, PartialEq, Eq)]
 pub struct Facts {
     pub kind: Kind,
     pub count: u32,

@@ -5,7 +5,7 @@ ghost use Rattle.hex_texts.specs.Hex.{hex_digit};
 use crate::unread::Unread;
 use std::alloc::Global;
 
-// What a digit is worth.
+// What a digit is worth; `to_digit` would take capitals too.
 fn digit_value(byte: u8) -> Option<u8>
     ensures { MatchOption result ((v : ℕ) → v < 16 → byte ≢ hex_digit v) (λ v. (v < 16) × (byte ≡ hex_digit v)) }
 {

@@ -9,7 +9,7 @@ use crate::unread::Unread;
 use std::alloc::Global;
 use std::str::FromStr;
 
-#[derive(Clone, Copy)]
+#[derive(Clone, Copy, Debug, PartialEq, Eq)]
 pub enum TextKind {
     Method,
     Int,

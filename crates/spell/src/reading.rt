@@ -61,7 +61,8 @@ fn text_reading(text: Vec<u8>, written: Vec<u8>) -> Reading {
     }
 }
 
-// Reads a text of a kind and writes it again.
+// Reads a text of a kind and writes it again. Each kind has its own reader, length and writer and a value of its own
+// type; what they share is above.
 pub(crate) fn read_text(heap: Global, kind: TextKind, text: &[u8]) -> Result<Reading, Unread> {
     match kind {
         TextKind::Method => method(heap, text),

@@ -12,7 +12,8 @@ use crate::put::{Escaped, Plain, put_base64, put_text};
 use held::held::{Facts, Held};
 use wire::kind::Kind;
 
-// The text of a row.
+// The text of a row. That the facts are those of the row at `i` is asked of the two functions that take both: as a
+// fact of a struct of theirs it would cite the members of its bound.
 fn put_spelling<M: Held>(held: &M, i: usize, row: Facts, pen: &mut Pen<'_>)
     requires { row ≡ facts_of (slice_index_or (M.Held.said held.now) i no_row) }
     ensures { Put pen.old (spelling_of (slice_index_or (M.Held.said held.now) i no_row) row.kind) pen.new }
@@ -52,7 +53,7 @@ pub(crate) fn write_part<M: Held>(held: &M, i: usize, pen: &mut Pen<'_>) -> usiz
     };
     open(held, i, row, pen);
     let mut next = i + 1;
-    for k in 0..row.count {
+    for _ in 0..row.count {
         pen.put(before(row.kind));
         next = write_part(held, next, pen);
         pen.put(after(row.kind));

@@ -20,29 +20,29 @@ none_put p k = put_none p
 pub returns-in_default-clause-part : goal.returns-in_default-clause-part
 returns-in_default-clause-part g t c = λ n rest counts e. absurd (omega (arith, (begins (g.M.Held.said c.args.held.now) rest c.args.i n e).inside, c.in_default.ensures.told))
 
-pub loop-k-init : goal.loop-k-init
-loop-k-init g t c = (omega arith, refl, λ n rest counts e. (no_parts c.args.i, none_put c.open.new.pen (own_row n).kind))
+pub loop-init : goal.loop-init
+loop-init g t c = (omega arith, refl, λ n rest counts e. (no_parts c.args.i, none_put c.open.new.pen (own_row n).kind))
 
-pub loop-k-preserved : goal.loop-k-preserved
-loop-k-preserved g t c = (
-  omega (arith, c.loop-k.invariant.0, c.write_part-next.ensures.rows),
-  c.put-in-loop-k.ensures.same_page ∙ c.write_part-next.ensures.same_page ∙ c.put.ensures.same_page ∙ c.loop-k.invariant.1,
+pub loop-preserved : goal.loop-preserved
+loop-preserved g t c = (
+  omega (arith, c.loop.invariant.0, c.write_part-next.ensures.rows),
+  c.put-in-loop.ensures.same_page ∙ c.write_part-next.ensures.same_page ∙ c.put.ensures.same_page ∙ c.loop.invariant.1,
   λ n rest counts e.
       let said = g.M.Held.said c.args.held.now in
       let b = begins said rest c.args.i n e in
       let oc = own_count n counts in
       let kd = (own_row n).kind in
       let parts = parts_of n in
-      let k = c.loop-k.k in
+      let k = c.loop.counter in
       let same : c.in-Some.row ≡ facts_of (own_row n) = c.in-Some.ensures.told.1 ∙ ap facts_of b.own in
-      let lt : k < how_many parts = omega (arith, c.loop-k-test.true, ap (λ f. f.count) same, oc.0) in
+      let lt : k < how_many parts = omega (arith, c.loop-test.true, ap (λ f. f.count) same, oc.0) in
       let p = next_part kd parts k lt oc.1 in
-      let old = c.loop-k.invariant.2 n rest counts e in
-      let here = stands said rest c.args.i c.loop-k.next k n kd b p old.0 in
+      let old = c.loop.invariant.2 n rest counts e in
+      let here = stands said rest c.args.i c.loop.next k n kd b p old.0 in
       let did = c.write_part-next.ensures.part p.part (nodes_rows (from (suc k) parts) ++ rest) p.counts here in
-      let last = c.put-in-loop-k.new.self in
-      let bf = subst (λ l. Put c.loop-k.pen l c.put.new.self) (c.before-in-loop-k.ensures ∙ ap (λ f. before_of f.kind) same) c.put.ensures in
-      let af = subst (λ l. Put c.write_part-next.new.pen l last) (c.after.ensures ∙ ap (λ f. after_of f.kind) same) c.put-in-loop-k.ensures in
+      let last = c.put-in-loop.new.self in
+      let bf = subst (λ l. Put c.loop.pen l c.put.new.self) (c.before-in-loop.ensures ∙ ap (λ f. before_of f.kind) same) c.put.ensures in
+      let af = subst (λ l. Put c.write_part-next.new.pen l last) (c.after.ensures ∙ ap (λ f. after_of f.kind) same) c.put-in-loop.ensures in
       let form = node_form p.part in
       let own = put_both (before_of kd) (form ++ after_of kd) bf (put_both form (after_of kd) did.1 af) in
       let total = put_both (nodes_form kd (up_to k parts)) (before_of kd ++ (form ++ after_of kd)) old.1 own in
@@ -61,13 +61,13 @@ returns-clause-part g t c = λ n rest counts e.
     let kd = (own_row n).kind in
     let parts = parts_of n in
     let same : c.in-Some.row ≡ facts_of (own_row n) = ◌∙◌ {b = facts_of (get_or said c.args.i no_row)} c.in-Some.ensures.told.1 (ap facts_of b.own) in
-    let old = c.loop-k.invariant.2 n rest counts e in
-    let all : c.loop-k.k ≡ how_many parts = omega (arith, c.loop-k-test.false, c.loop-k.auto.k-end, ap (λ f. f.count) same, oc.0) in
-    let done : up_to c.loop-k.k parts ≡ parts = ap (λ j. up_to j parts) all ∙ all_parts parts in
+    let old = c.loop.invariant.2 n rest counts e in
+    let all : c.loop.counter ≡ how_many parts = omega (arith, c.loop-test.false, c.loop.auto.counter-end, ap (λ f. f.count) same, oc.0) in
+    let done : up_to c.loop.counter parts ≡ parts = ap (λ j. up_to j parts) all ∙ all_parts parts in
     let last = c.put-2.new.self in
     let opened = subst (λ r. Put c.args.pen.now (opening_of r) c.open.new.pen) b.own c.open.ensures in
-    let held = subst (λ ns. Put c.open.new.pen (nodes_form kd ns) c.loop-k.pen) done old.1 in
-    let closed = subst (λ l. Put c.loop-k.pen l last) (c.close.ensures ∙ ap (λ f. close_of f.kind f.count) same) c.put-2.ensures in
+    let held = subst (λ ns. Put c.open.new.pen (nodes_form kd ns) c.loop.pen) done old.1 in
+    let closed = subst (λ l. Put c.loop.pen l last) (c.close.ensures ∙ ap (λ f. close_of f.kind f.count) same) c.put-2.ensures in
     let whole = put_both (opening_of (own_row n)) (nodes_form kd parts ++ close_of kd (own_row n).count) opened (put_both (nodes_form kd parts) (close_of kd (own_row n).count) held closed) in (
       omega (arith, old.0, whole_rows n, ap (λ ns. length (nodes_rows ns)) done),
       subst (λ l. Put c.args.pen.now l last) (sym (whole_form n)) whole,
