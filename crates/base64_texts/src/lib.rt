@@ -118,7 +118,8 @@ pub fn check_base64(text: &[u8]) -> Result<usize, Malformed>
     Ok(count / 4 * 3 + count % 4 * 3 / 4)
 }
 
-// The bits of the last sextet read that belong to the next byte: its low four, or its low two.
+// The bits of the last sextet read that belong to the next byte: its low four, or its low two. They are data and no
+// closure, since a cursor stands still between its calls.
 #[derive(Clone, Copy)]
 enum Held {
     Nothing,

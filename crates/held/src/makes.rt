@@ -29,7 +29,8 @@ pub fn stored<'a>(message: &'a [u8], ink: &'a [u8], span: Span) -> Part<'a>
     }
 }
 
-// The text of a row as it is read.
+// The text of a row as it is read. A message that was read has no ink and a composed one no message, so the two
+// memories go one by one, as `stored` takes them.
 fn text_of<'a>(message: &'a [u8], ink: &'a [u8], row: Row) -> Text<'a>
     ensures { left result ≡ (said_by message.now ink.now row).text }
 {

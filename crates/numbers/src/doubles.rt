@@ -96,7 +96,7 @@ fn whole_part(number: i64, scale: u8) -> Signed
     Signed { minus, magnitude }
 }
 
-// How long the spelling of a number with a scale is.
+// How long the spelling of a number with a scale is. The two are a tuple where they are read, and rows hold them apart.
 pub fn double_len(number: i64, scale: u8) -> usize
     ensures { result ≡ length (double_spelling number scale) }
 {

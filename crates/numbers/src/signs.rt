@@ -4,7 +4,8 @@ ghost use Rattle.numbers.specs.Signs.{is_minus, after_sign, signed, signed_spell
 
 use texts::digits::{digit_count, fill_digits};
 
-// Whether a minus stands first, and what follows the sign.
+// Whether a minus stands first, and what follows the sign. Both are always there: the first is the sign, and no flag
+// for the second.
 pub(crate) fn split_sign(text: &[u8]) -> (bool, &[u8])
     ensures minus { result.0 ≡ is_minus text.now }
     ensures rest { result.1.now ≡ after_sign text.now }
@@ -38,7 +39,7 @@ impl From<i64> for Signed {
 }
 
 impl Signed {
-    // The number.
+    // The number. No `From`, which could not ask that it fits.
     pub(crate) fn number(self) -> i64
         requires { self.magnitude < 2 ^ 63 }
         ensures { result ≡ signed self.minus self.magnitude }

@@ -61,6 +61,7 @@ impl Name {
         ensures value { result ≡ named bytes.now }
     {
         let name = likely_name(bytes);
+        // By `then_some` the proof would have both answers in one, and take the test apart again.
         if bytes == name.spelling() {
             Some(name)
         } else {

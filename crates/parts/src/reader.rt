@@ -56,7 +56,8 @@ pub enum Next {
     Close(Emptied),
 }
 
-// A message, a place in it that is never past its end, and what comes next there.
+// A message, a place in it that is never past its end, and what comes next there. The place is no rest of a slice,
+// since it is told of each part.
 #[derive(Drop)]
 pub struct Reader<'a> {
     message: &'a [u8],
@@ -85,6 +86,7 @@ impl<'a> Reader<'a> {
         ensures parts { Begins message.now result }
         ensures one_way { (p : ℕ) (bs : List ℕ) → CutInOneWay p bs }
     {
+        // As `ok_or(..)?` it is no shorter, and its proof is about the error's conversion; so it is in `cut_tag`.
         match declaration_len(message) {
             Some(at) => Ok(Reader {
                 message,
@@ -126,7 +128,6 @@ impl<'a> Reader<'a> {
         let [_, behind @ ..] = &message[place..] else {
             return Ok(None);
         };
-        // As `ok_or(..)?` it is no shorter, and its proof is about the error's conversion.
         let Some(spelling) = tag_of(behind) else {
             return Err(Refusal::NotATag(place));
         };

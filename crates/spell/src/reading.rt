@@ -62,7 +62,7 @@ fn text_reading(text: Vec<u8>, written: Vec<u8>) -> Reading {
 }
 
 // Reads a text of a kind and writes it again. Each kind has its own reader, length and writer and a value of its own
-// type; what they share is above.
+// type; what they share is above. The kinds are a closed list, and the heap is handed on as every allocation asks.
 pub(crate) fn read_text(heap: Global, kind: TextKind, text: &[u8]) -> Result<Reading, Unread> {
     match kind {
         TextKind::Method => method(heap, text),
