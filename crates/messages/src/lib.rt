@@ -2,6 +2,7 @@
 #![tactic(auto)]
 
 mod names;
+mod parsed;
 mod reading;
 mod sorted;
 mod walk;

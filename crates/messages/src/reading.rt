@@ -6,22 +6,21 @@ ghost use Rattle.reader.specs.Derivations.{Say};
 ghost use Rattle.reader.specs.KnownCases.{KnownCases};
 ghost use Rattle.messages.specs.Answers.{Sound, Flawed, Answer, OneAnswer, AcceptedIsMessage, MessageIsAccepted, OneReading};
 
-use crate::names::first_repeat;
+use crate::parsed::Parsed;
 use reader::{fault_fits, read_rows};
 use wire::level::Level;
 use wire::refusal::Refusal;
 use wire::row::{Row, blank_first};
 
 // Whether rows that the grammar derives are a message, or else what is wrong with them.
-fn judge(message: &[u8], rows: &[Row]) -> Result<(), Refusal>
-    requires few { length rows.now ≤ 4096 }
-    requires said { (m : Message) × Say message.now rows.now m }
-    ensures { MatchResult result (λ _. Sound message.now rows.now) (λ e. Flawed message.now rows.now e) }
+fn judge(parsed: Parsed<'_, '_>) -> Result<(), Refusal>
+    requires { (m : Message) × Say parsed.message.now parsed.rows.now m }
+    ensures { MatchResult result (λ _. Sound parsed.entry.message.now parsed.entry.rows.now) (λ e. Flawed parsed.entry.message.now parsed.entry.rows.now e) }
 {
-    if let Some(i) = first_repeat(message, rows) {
-        return Err(Refusal::RepeatedName(rows[i].text.start as usize));
+    if let Some(i) = parsed.first_repeat() {
+        return Err(Refusal::RepeatedName(parsed.rows[i].text.start as usize));
     }
-    if !fault_fits(message, rows) {
+    if !fault_fits(parsed.message, parsed.rows) {
         return Err(Refusal::BadFault);
     }
     Ok(())
@@ -33,7 +32,11 @@ fn read_within(message: &[u8], rows: &mut [Row]) -> Result<usize, Refusal>
     ensures { Answer (length rows.old) message.now rows.old result rows.new }
 {
     let used = read_rows(message, rows)?;
-    if let Err(refusal) = judge(message, &rows[..used]) {
+    let parsed = Parsed {
+        message,
+        rows: &rows[..used],
+    };
+    if let Err(refusal) = judge(parsed) {
         let all = rows.len();
         blank_first(rows, all);
         return Err(refusal);

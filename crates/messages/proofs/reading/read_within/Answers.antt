@@ -15,6 +15,16 @@ returns-in_err-used c =
     let p = err_from_is_err_and c.from_residual.result c.from_residual.ensures.1 in
     rw (p.1, p.2) (refused_answer msg old c.read_rows.new.rows c.in_err-used.field-0.0 read.value read.rows)
 
+pub invariant_of-parsed : goal.invariant_of-parsed
+invariant_of-parsed c =
+    let msg = c.args.message.now in
+    let old = c.args.rows.now in
+    let left = c.read_rows.new.rows in
+    let n = c.in_ok-used.used in
+    let read = c.in_ok-used.ensures in
+    let r = was_read msg old left n read.value in
+    record { few = omega (arith, ap length (front msg old left n r read.rows), r.fits, c.requires) }
+
 pub judge-requires : goal.judge-requires
 judge-requires c =
     let msg = c.args.message.now in
@@ -25,7 +35,7 @@ judge-requires c =
     let r = was_read msg old left n read.value in
     let rows = front msg old left n r read.rows in
     let d = read_is_derived msg r.rs r.reads in
-    record { few = omega (arith, ap length rows, r.fits, c.requires); said = (d.0, subst (λ l. Say msg l d.0) (sym rows) d.2) }
+    (d.0, subst (λ l. Say msg l d.0) (sym rows) d.2)
 
 pub returns : goal.returns
 returns c =

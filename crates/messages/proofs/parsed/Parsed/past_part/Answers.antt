@@ -3,11 +3,11 @@ use Rattle.std.proofs.lemmas.List.{take_rest, drop-map}
 use Rattle.wire.specs.Rows.{blank_row}
 use Rattle.messages.specs.Holding.{extent, counts_of}
 use Rattle.messages.proofs.Walked.{extent_more, count_at, counts_length}
-use Rattle.messages.proofs.walk.past_part.Goals as goal
+use Rattle.messages.proofs.parsed.Parsed.past_part.Goals as goal
 
 pub loop-passed-preserved : goal.loop-passed-preserved
 loop-passed-preserved c =
-    let rows = c.args.rows.now in
+    let rows = c.args.self.rows.now in
     let start = c.args.start in
     let i = c.loop-passed.passed in
     let counts = drop start (counts_of rows) in

@@ -2,12 +2,12 @@ use Rattle.std.proofs.Common.{◌+◌, ◌<◌, length, Ok, sym, ap, ◌∙◌, 
 use Rattle.characters.specs.Decoding.{decoded}
 use Rattle.messages.specs.Sorted.{name_at, Belongs, IsPlaceOf}
 use Rattle.messages.proofs.Seen.{Seen, seen_more}
-use Rattle.messages.proofs.names.repeat_in.Goals as goal
+use Rattle.messages.proofs.parsed.Parsed.repeat_in.Goals as goal
 
 pub returns-in-Ok : goal.returns-in-Ok
 returns-in-Ok c =
-    let msg = c.args.message.now in
-    let rows = c.args.rows.now in
+    let msg = c.args.self.message.now in
+    let rows = c.args.self.rows.now in
     let seen = c.loop.invariant in
     let found = subst (λ sorted. IsPlaceOf msg rows sorted (decoded c.cut-name.result.now) (Ok c.in-Ok.field-0)) c.as_slice.ensures c.in-Ok.ensures in
     let old = seen.comes c.in-Ok.field-0 (omega (arith, found.0, seen.many)) in (
@@ -24,8 +24,8 @@ returns-in-Ok c =
 
 pub loop-preserved : goal.loop-preserved
 loop-preserved c =
-    let msg = c.args.message.now in
-    let rows = c.args.rows.now in
+    let msg = c.args.self.message.now in
+    let rows = c.args.self.rows.now in
     let seen = c.loop.invariant in
     let place = c.in-Err.place in
     let lt : c.loop.member < length rows = omega (arith, seen.here, c.requires.held c.loop.counter c.loop-test.true) in
