@@ -4,12 +4,14 @@
 ghost use Rattle.std.specs.Prelude.{◌≡◌, ◌+◌, ◌%◌, ◌^◌, ◌<◌, ◌≤◌, true, false, ◌&&◌, [], ◌∷◌, ◌++◌, length, drop, Decides, MatchOption, MatchResult, ◌==◌, nat_le};
 ghost use Rattle.std.specs.List.{prefix_len};
 ghost use Rattle.texts.specs.Pages.{Writes};
+ghost use Rattle.texts.specs.Streams.{shown_laws};
 ghost use Rattle.base64_texts.specs.Base64.{is_letter, is_pad, sextet, letter as letterOf, nonblank, sextets, padding, last_or, decoded, is_base64, base64_spelling, SpellsBytes};
 ghost use Rattle.base64_texts.specs.Cursor.{ahead, left as bytesLeft};
 ghost use Rattle.std.specs.Iterator.{YieldsFirst, item_count};
 
 use texts::Malformed;
 use texts::bytes::{Blank, Class};
+use texts::streams::Stream;
 
 fn is_letter(byte: u8) -> bool
     ensures { result ≡ is_letter byte }
@@ -189,6 +191,12 @@ impl<'a> Iterator for Decoded<'a> {
             }
         }
     }
+}
+
+impl Stream for Decoded<'_> {
+    ghost left = { bytesLeft };
+
+    ghost laws = { shown_laws bytesLeft };
 }
 
 // How long the spelling of these bytes is.

@@ -1,10 +1,11 @@
 // A cursor that gives the characters of a text one after another.
 ghost use Rattle.std.specs.Prelude.{◌≡◌};
 ghost use Rattle.characters.specs.Decoding.{decoded};
-ghost use Rattle.characters.specs.Left.{left as toCome, Gives};
+ghost use Rattle.characters.specs.Left.{left as toCome, Gives, laws_of_characters};
 ghost use Rattle.std.specs.Iterator.{item_count};
 
 use crate::unit::unit;
+use texts::streams::Stream;
 
 // The characters of a text that are still to come: those of what is left of it.
 #[derive(Drop)]
@@ -35,4 +36,10 @@ impl<'a> Iterator for Characters<'a> {
         self.rest = &behind[more..];
         Some(c)
     }
+}
+
+impl Stream for Characters<'_> {
+    ghost left = { toCome };
+
+    ghost laws = { laws_of_characters };
 }

@@ -7,6 +7,7 @@ ghost use Rattle.std.specs.Iterator.{IsFinite, Drains};
 ghost use Rattle.hex_texts.specs.Hex.{hex_byte, hex_text};
 
 use std::fmt;
+use texts::streams::Stream;
 
 // Writes the two digits of a byte.
 pub fn write_byte<W: fmt::Write>(byte: u8, f: &mut fmt::Formatter<W>) -> fmt::Result
@@ -16,13 +17,8 @@ pub fn write_byte<W: fmt::Write>(byte: u8, f: &mut fmt::Formatter<W>) -> fmt::Re
 }
 
 // Writes the digits of bytes as an iterator gives them, `-` where it gives none.
-pub fn write_bytes<I: Iterator<Item = u8> + Drop, W: fmt::Write>(
-    bytes: I,
-    f: &mut fmt::Formatter<W>,
-) -> fmt::Result
-    requires can { I.can_next bytes }
-    requires ends { IsFinite (I.remaining bytes) }
-    ensures { IsPlainFormatter f.old → IsOk result → (all : List ℕ) × Drains I.next_gives bytes all × HasWritten W.write_str_gives f.old (hex_text all) f.new }
+pub fn write_bytes<S: Stream, W: fmt::Write>(bytes: S, f: &mut fmt::Formatter<W>) -> fmt::Result
+    ensures { WritesOnOk W.write_str_gives f.old result (hex_text (S.Stream.left bytes)) f.new }
 {
     let mut bytes = bytes;
     let Some(first) = bytes.next() else {

@@ -1,2 +1,1 @@
-mod Streams
 mod Lines

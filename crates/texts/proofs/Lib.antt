@@ -2,3 +2,4 @@ pub mod Numerals
 pub mod Fronts
 pub mod Bare
 pub mod Written
+pub mod Drained

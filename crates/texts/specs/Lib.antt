@@ -3,3 +3,4 @@ pub mod Pages
 pub mod Digits
 pub mod Methods
 pub mod Booleans
+pub mod Streams

@@ -7,6 +7,7 @@ pub mod bytes;
 pub mod digits;
 pub mod methods;
 pub mod pages;
+pub mod streams;
 
 // The text breaks its form or its range.
 #[derive(Clone, Copy, PartialEq, Eq, Debug)]
