@@ -18,9 +18,9 @@ impl Stream for Copied<Iter<'_, u8>> {
     ghost left = { λ s. iter_rest (copied_source s) };
 
     ghost laws = { record {
-        askable = λ s. tt;
-        ends = λ s. tt;
-        stops = λ s t h. copied_stops iter_steps iter_rest (λ a b k. k.0) (λ a x b k. k) (copied_source s) (copied_source t) h.0 h.1 h.2;
-        goes = λ s b t h. copied_goes iter_steps iter_rest (λ a b k. k.0) (λ a x b k. k) (copied_source s) b (copied_source t) h.0 h.1 h.2;
+      askable = λ s. tt;
+      ends = λ s. tt;
+      stops = λ s t h. copied_stops iter_steps iter_rest (λ a b k. k.0) (λ a x b k. k) (copied_source s) (copied_source t) h.0 h.1 h.2;
+      goes = λ s b t h. copied_goes iter_steps iter_rest (λ a b k. k.0) (λ a x b k. k) (copied_source s) b (copied_source t) h.0 h.1 h.2;
     } };
 }
