@@ -1,4 +1,4 @@
-// Texts compared as they are read, character by character.
+// Texts compared as they are read, character by character: one call of `eq` for each of the two that are compared with.
 ghost use Rattle.std.specs.Prelude.{◌≡◌, Decides};
 ghost use Rattle.characters.specs.Decoding.{decoded};
 

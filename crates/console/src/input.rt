@@ -62,7 +62,8 @@ impl<R: Read> Input<R> {
         }
     }
 
-    // Takes the next line into the buffer, without its line feed, and gives its length; nothing at the end.
+    // Takes the next line into the buffer, without its line feed, and gives its length; nothing at the end. By
+    // `read_until` it would grow with the line.
     pub(crate) fn line(&mut self, buffer: &mut [u8]) -> Result<Option<usize>, Stop>
         ensures { IfOk result (λ n. Within n (length buffer.old)) }
     {

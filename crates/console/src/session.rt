@@ -17,7 +17,8 @@ use wire::level::Level;
 use wire::refusal::{LONGEST, Refusal};
 use wire::row::Row;
 
-// The buffer and the rows go beside it: what a message in them came to is said while the session changes.
+// The buffer and the rows, and how much of the buffer is a message, go beside it: what a message in them came to is said
+// while the session changes.
 #[derive(Drop)]
 struct Session<R, W> {
     input: Input<R>,

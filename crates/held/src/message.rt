@@ -1,4 +1,5 @@
-// A message as it was read: its bytes, and rows over them.
+// A message as it was read: its bytes, and rows over them. What was composed has ink in place of bytes, and is another
+// make: its ghost fact is another.
 ghost use Rattle.std.specs.Prelude.{[]};
 ghost use Rattle.held.specs.Formed.{Formed};
 ghost use Rattle.held.specs.Stored.{sayings};

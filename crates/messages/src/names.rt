@@ -60,6 +60,7 @@ impl<'m, 'r> Parsed<'m, 'r> {
     {
         sorted.clear();
         let mut member = at + 1;
+        // A part's length shows only when it is passed, so the row is walked.
         for _ in 0..self.rows[at].count {
             let name = self.rows[member].text.cut(self.message);
             match self.seek(sorted.as_slice(), name) {

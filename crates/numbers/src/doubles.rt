@@ -96,7 +96,8 @@ fn whole_part(number: i64, scale: u8) -> Signed
     Signed { minus, magnitude }
 }
 
-// How long the spelling of a number with a scale is. The two are a tuple where they are read, and rows hold them apart.
+// How long the spelling of a number with a scale is. The format tells the two as two numbers, and rows
+// hold them apart.
 pub fn double_len(number: i64, scale: u8) -> usize
     ensures { result ≡ length (double_spelling number scale) }
 {

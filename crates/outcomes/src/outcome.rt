@@ -7,7 +7,7 @@ use std::fmt;
 use wire::refusal::Refusal;
 use wire::row::Row;
 
-// A line for each row of a message.
+// A line for each row of a message. It has what `Accepted` has, and is a type of its own for what it shows.
 #[derive(Clone, Copy)]
 struct RowLines<'m, 'r> {
     message: &'m [u8],

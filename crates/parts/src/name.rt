@@ -55,13 +55,14 @@ impl Name {
         }
     }
 
-    // The name that bytes spell. No `TryFrom`, since there is nothing to say of bytes that spell none.
+    // The name that bytes spell. No `TryFrom`: the definition that it is proved equal to gives an option too, and nobody
+    // would read the error.
     pub fn from_spelling(bytes: &[u8]) -> Option<Name>
         ensures name { MatchOption result ((n : SomeName) → bytes.now ≢ spelled n) (λ n. bytes.now ≡ spelled n) }
         ensures value { result ≡ named bytes.now }
     {
         let name = likely_name(bytes);
-        // By `then_some` the proof would have both answers in one, and take the test apart again.
+        // Tried by `then_some`: its two answers in one were not found.
         if bytes == name.spelling() {
             Some(name)
         } else {

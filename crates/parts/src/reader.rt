@@ -86,7 +86,7 @@ impl<'a> Reader<'a> {
         ensures parts { Begins message.now result }
         ensures one_way { (p : ℕ) (bs : List ℕ) → CutInOneWay p bs }
     {
-        // As `ok_or(..)?` it is no shorter, and its proof is about the error's conversion; so it is in `cut_tag`.
+        // Tried as `ok_or(..)?`, here and in `cut_tag`: a goal about the error's conversion stays open.
         match declaration_len(message) {
             Some(at) => Ok(Reader {
                 message,

@@ -34,6 +34,7 @@ impl Frame {
         requires { self.count < 2 ^ 32 }
         ensures { result ≡ holder_row self }
     {
+        // Both types are of other crates, so no `From` can stand here.
         let kind = match self.shape {
             Shape::Call => Kind::Call,
             Shape::Response => Kind::Response,

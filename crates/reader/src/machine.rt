@@ -141,7 +141,8 @@ impl<'r> Machine<'r> {
         Ok(())
     }
 
-    // The run is the method's name, which the call's row will have.
+    // The run is the method's name, which the call's row will have. With `fault` it shares `pop` and `push`: the field
+    // and the mode differ.
     fn name(&mut self, row: Row, place: usize) -> Result<(), Refusal>
         ensures { Turn 0 self.old (named slice_set self.old.stack place row self.old.used self.old.rows.now) result self.new }
     {

@@ -74,7 +74,7 @@ fn good_bytes(message: &[u8]) -> usize
 }
 
 // The rows of a message, or the first refusal, which may leave anything in the lent rows. Message and rows are the
-// caller's own, handed on one call deep.
+// caller's own, handed on.
 fn try_rows(message: &[u8], rows: &mut [Row]) -> Result<usize, Refusal>
     ensures value { result ≡ within (length rows.old) (rows_of message.now) }
     ensures rows { OnOk result (rows.new ≡ left_by result (rows_of message.now) rows.old) }

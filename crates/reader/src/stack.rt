@@ -11,7 +11,7 @@ const DEEPEST: usize = 17;
 // An array with its length, since no memory is asked for.
 #[derive(Drop)]
 pub(crate) struct Stack {
-    frames: [Frame; 17],
+    frames: [Frame; DEEPEST],
     depth: usize,
 }
 
@@ -29,7 +29,7 @@ impl Stack {
         ensures { result ≡ [] }
     {
         Stack {
-            frames: [Frame::EMPTY; 17],
+            frames: [Frame::EMPTY; DEEPEST],
             depth: 0,
         }
     }

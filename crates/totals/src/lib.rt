@@ -11,7 +11,7 @@ use wire::refusal::Refusal;
 pub struct Totals {
     messages: u64,
     accepted: u64,
-    // Those refused by 1 first.
+    // Those refused by 1 first: the numbers have no gaps, and no memory is asked for.
     refused: [u64; 18],
 }
 

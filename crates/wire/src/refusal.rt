@@ -29,7 +29,8 @@ pub enum Refusal {
 }
 
 impl Refusal {
-    // The number and the place by which a refusal is told. A pair by `From` would not say which is which.
+    // The number and the place by which a refusal is told. It has a name of its own, since a refusal
+    // is two numbers nowhere but where it is told.
     pub fn told(self) -> (u8, usize)
         ensures { result ≡ told self }
     {

@@ -31,6 +31,8 @@ impl Span {
     }
 }
 
+// A struct and no enum with data: every row has a count, a number, a scale and a text, if only an empty one, and its size
+// is fixed.
 #[derive(Clone, Copy, Debug, PartialEq, Eq)]
 pub struct Row {
     pub kind: Kind,
@@ -84,7 +86,7 @@ pub fn blank_first<T: Blank>(memory: &mut [T], n: usize)
     ensures { memory.new ≡ cleared T.Blank.blank n memory.old }
 {
     let n = n.min(memory.len());
-    // `fill` asks for a law of `clone` that the bound `Copy` does not bring.
+    // `fill` would have the trait carry a law of `clone` besides.
     for place in &mut memory[..n] {
         *place = T::blank();
     }

@@ -65,7 +65,7 @@ pub(crate) fn close(kind: Kind, count: u32) -> &'static [u8]
     }
 }
 
-// In front of each part.
+// In front of each part; this and the next are two columns of the table in specs/.
 pub(crate) fn before(kind: Kind) -> &'static [u8]
     ensures { result.now ≡ before_of kind }
 {

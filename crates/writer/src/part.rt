@@ -53,6 +53,7 @@ pub(crate) fn write_part<M: Held>(held: &M, i: usize, pen: &mut Pen<'_>) -> usiz
     };
     open(held, i, row, pen);
     let mut next = i + 1;
+    // A part's length shows only when it is written.
     for _ in 0..row.count {
         pen.put(before(row.kind));
         next = write_part(held, next, pen);
