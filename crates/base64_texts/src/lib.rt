@@ -79,7 +79,7 @@ fn front_of(text: &[u8]) -> Front<'_>
     }
 }
 
-// How many `=` a text holds, where it holds nothing else but blanks.
+// How many `=` a text holds, where it holds nothing else but blanks. None is no count; the caller says that it is an error.
 fn pads_of(text: &[u8]) -> Option<usize>
     ensures { MatchOption result (prefix_len is_pad (nonblank text.now) < length (nonblank text.now)) (λ n. (prefix_len is_pad (nonblank text.now) ≡ length (nonblank text.now)) × (n ≡ length (nonblank text.now)) × (n ≤ length text.now)) }
 {

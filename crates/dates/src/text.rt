@@ -26,7 +26,7 @@ fn two_digits(tens: u8, ones: u8) -> Option<u8>
     Some((tens - b'0') * 10 + (ones - b'0'))
 }
 
-// The date that a text without blanks round it spells.
+// The date that a text without blanks round it spells, if it does, as `Date::new` says it.
 fn read_plain(text: &[u8]) -> Option<Date>
     ensures { option_map moment_of result ≡ plain_date text.now }
 {

@@ -8,7 +8,7 @@ ghost use Rattle.held.specs.Told.{no_row, TellsRow};
 use crate::text::Text;
 use wire::kind::Kind;
 
-// A row but for its text.
+// A row but for its text: all four, as every row has them.
 #[derive(Clone, Copy, Debug, PartialEq, Eq)]
 pub struct Facts {
     pub kind: Kind,

@@ -121,7 +121,7 @@ fn value_run(mode: ValueMode, tag: Tag, run: Run<'_>) -> Result<Row, Refusal>
     }
 }
 
-// Whether a run must be blank, where it stands before this tag.
+// Whether a run must be blank, where it stands before this tag. Mode and tag go together as the key of the table.
 pub(crate) fn must_be_blank(mode: Mode, tag: Tag) -> bool
     ensures blank { result ≡ true → (p : ℕ) (bs : List ℕ) → run_row mode tag p bs ≡ blank_run p bs }
     ensures leaves { result ≡ true → LeavesRow (lookup tag (entries mode)) }

@@ -13,6 +13,7 @@ use texts::booleans::{boolean_len, read_boolean, write_boolean};
 use texts::methods::read_method_name;
 use texts::pages::write_text;
 
+// All four, whatever the kind: the answer shows each.
 #[derive(Drop)]
 pub struct Reading {
     number: i64,
