@@ -1,7 +1,8 @@
 -- A page to which characters are written one after another.
-use Rattle.std.proofs.Common.{◌≡◌, ℕ, ◌+◌, ◌-◌, ◌<◌, List, [], ◌∷◌, ◌++◌, length, get_or, take, drop, Some, None, sym, ap, ◌∙◌, append_assoc, append-nil, length-append, length-drop, arith}
+use Rattle.std.proofs.Common.{◌≡◌, ℕ, ◌+◌, ◌-◌, ◌<◌, ◌≤◌, ◌⊎◌, inl, inr, ⊎_elim, refl, List, [], ◌∷◌, ◌++◌, length, get_or, take, drop, Some, None, sym, ap, ◌∙◌, append_assoc, append-nil, length-append, length-drop, arith}
 use borrow.Rule.Slice.PartMut.{put_mid}
 use Rattle.std.proofs.lemmas.List.{at_drop_more, drop-drop, drop_all, take_rest, drop_at, take_at, take_more, flat_map_more}
+use Rattle.std.proofs.lemmas.Bool.{cases_eq, ne_eqb}
 use Rattle.characters.specs.Spelling.{reference_for, or_itself, escape, characters_spelling}
 
 pub escape_some : (c : ℕ) (w : List ℕ) → reference_for c ≡ Some w → escape c ≡ w
@@ -11,6 +12,35 @@ escape_some c w e = ap (λ o. or_itself o c) e
 pub escape_none : (c : ℕ) → reference_for c ≡ None → escape c ≡ c ∷ []
 unfolding escape
 escape_none c e = ap (λ o. or_itself o c) e
+
+-- a character stands for itself, or takes more than one byte
+own_or_more : (c : ℕ) → (escape c ≡ c ∷ []) ⊎ (2 ≤ length (escape c))
+unfolding escape
+own_or_more c =
+    ⊎_elim (λ e. inr (omega (arith, ap (λ x. length (escape x)) e)))
+    (λ amp. ⊎_elim (λ e. inr (omega (arith, ap (λ x. length (escape x)) e)))
+    (λ less. ⊎_elim (λ e. inr (omega (arith, ap (λ x. length (escape x)) e)))
+    (λ more. ⊎_elim (λ e. inr (omega (arith, ap (λ x. length (escape x)) e)))
+    (λ line. inl (simp (ne_eqb c 38 amp, ne_eqb c 60 less, ne_eqb c 62 more, ne_eqb c 13 line)))
+    (cases_eq c 13)) (cases_eq c 62)) (cases_eq c 60)) (cases_eq c 38)
+
+pub length_least : (cs : List ℕ) → length cs ≤ length (characters_spelling cs)
+length_least [] = omega arith
+length_least (c ∷ cs) =
+    let both = length-append (escape c) (characters_spelling cs) in
+    let rest = length_least cs in
+    ⊎_elim (λ e. omega (arith, both, rest, ap length e)) (λ two. omega (arith, both, rest, two)) (own_or_more c)
+
+-- characters that take a byte each are their own spelling
+pub own_spelling : (cs : List ℕ) → length (characters_spelling cs) ≡ length cs → characters_spelling cs ≡ cs
+own_spelling [] h = refl
+own_spelling (c ∷ cs) h =
+    let both = length-append (escape c) (characters_spelling cs) in
+    let least = length_least cs in
+    ⊎_elim
+    (λ e. ap (λ l. l ++ characters_spelling cs) e ∙ ap (λ l. c ∷ l) (own_spelling cs (omega (arith, both, h, ap length e))))
+    (λ two. absurd (omega (arith, both, h, two, least)))
+    (own_or_more c)
 
 -- the length of what is left to write
 pub length_more : (cs : List ℕ) (i : ℕ) → i < length cs → length (characters_spelling (drop i cs)) ≡ length (escape (get_or cs i 0)) + length (characters_spelling (drop (i + 1) cs))

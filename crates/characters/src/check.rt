@@ -5,7 +5,7 @@ ghost use Rattle.characters.specs.Rule.{Judges};
 
 use crate::class::Character;
 use crate::unit::{Plain, unit};
-use texts::bytes::{all_of, leading_of};
+use texts::bytes::leading_of;
 
 // Why a text is no character data.
 #[derive(Clone, Copy, PartialEq, Eq, Debug)]
@@ -39,7 +39,7 @@ pub fn check_characters(text: &[u8]) -> Result<usize, BadCharacters>
     ensures verdict { result ≡ checked text.now }
     ensures rule { Judges text.now result }
 {
-    if !all_of::<Character>(text) {
+    if leading_of::<Character>(text) < text.len() {
         return Err(BadCharacters::Byte);
     }
     count_characters(text)

@@ -65,6 +65,11 @@ pub fn write_characters(plain: &[u8], page: &mut [u8]) -> Option<usize>
     if len > page.len() {
         return None;
     }
+    // Mostly all stand for themselves, and go to the page together.
+    if len == plain.len() {
+        page[..len].copy_from_slice(plain);
+        return Some(len);
+    }
     // The place is counted along, since the characters take one to five bytes each.
     let mut at = 0;
     for b in plain {

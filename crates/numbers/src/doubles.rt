@@ -8,7 +8,7 @@ ghost use Rattle.numbers.specs.Doubles.{is_zero, AllDigits, is_fraction, is_plai
 
 use crate::signs::{Signed, split_sign};
 use texts::Malformed;
-use texts::bytes::{Class, Digit, all_of, leading_of, trailing_of, unblanked};
+use texts::bytes::{Class, Digit, leading_of, trailing_of, unblanked};
 use texts::digits::fill_digits;
 
 // The digit zero, which does not count at either end.
@@ -44,7 +44,8 @@ fn split_fraction(rest: &[u8]) -> Result<&[u8], Malformed>
 {
     match rest {
         [] => Ok(rest),
-        [b'.', digits @ ..] if !digits.is_empty() && all_of::<Digit>(digits) => Ok(digits),
+        [b'.', digits @ ..] if !digits.is_empty() && leading_of::<Digit>(digits) == digits.len() =>
+            Ok(digits),
         _ => Err(Malformed),
     }
 }

@@ -1,6 +1,6 @@
 use Rattle.std.proofs.Common.{◌≡◌, ◌+◌, ◌<◌, ◌++◌, length, get_or, take, drop, sym, ap, ◌∙◌, arith, length-append}
 use Rattle.characters.specs.Spelling.{escape, characters_spelling}
-use Rattle.characters.proofs.Pages.{length_more, spelling_more, page_put}
+use Rattle.characters.proofs.Pages.{own_spelling, length_more, spelling_more, page_put}
 use Rattle.characters.proofs.ReadBack.{reads_back}
 use Rattle.characters.proofs.write.write_characters.Goals as goal
 
@@ -9,6 +9,17 @@ returns-in_err-len-clause-reads_back c = reads_back c.args.plain.now
 
 pub returns-then-len-page-clause-reads_back : goal.returns-then-len-page-clause-reads_back
 returns-then-len-page-clause-reads_back c = reads_back c.args.plain.now
+
+pub returns-then-len-plain-clause-reads_back : goal.returns-then-len-plain-clause-reads_back
+returns-then-len-plain-clause-reads_back c = reads_back c.args.plain.now
+
+pub returns-then-len-plain-clause-written : goal.returns-then-len-plain-clause-written
+returns-then-len-plain-clause-written c =
+    let plain = c.args.plain.now in
+    let old = c.args.page.now in
+    let long = c.in_ok-len.ensures in
+    let same : c.copy_from_slice.new.self ≡ characters_spelling plain = c.copy_from_slice.ensures.after ∙ sym (own_spelling plain (sym long ∙ c.if-len-plain.true)) in
+    (long, omega (arith, long, c.if-len-page.false), (λ i. same i ++ drop (long i) old))
 
 pub loop-b-preserved : goal.loop-b-preserved
 loop-b-preserved c =

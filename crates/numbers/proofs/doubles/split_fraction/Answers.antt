@@ -1,7 +1,6 @@
-use Rattle.std.proofs.Common.{◌≡◌, true, eqb, length, take, drop, sym, ap, ◌∙◌, subst, arith}
+use Rattle.std.proofs.Common.{◌≡◌, length, take, drop, sym, ap, ◌∙◌, subst, arith}
 use Rattle.std.specs.List.{prefix_len}
 use Rattle.std.proofs.lemmas.List.{take_rest, take_all}
-use Rattle.std.proofs.lemmas.Bool.{eqb-true}
 use Rattle.std.proofs.lemmas.Bool.Decides.{nat_tests}
 use Rattle.texts.specs.Digits.{is_digit}
 use Rattle.texts.proofs.Fronts.{all_leading}
@@ -13,6 +12,7 @@ returns-in-46 c =
     let r = c.args.rest.now in
     let cut = take_rest r 1 in
     let ds = drop 1 r in
-    let all : eqb (prefix_len is_digit ds) (length ds) ≡ true = ap (λ l. eqb (prefix_len is_digit l) (length l)) (sym cut) ∙ sym c.all_of.ensures ∙ c.if-all_of.true in
-    let digits : AllDigits ds = subst AllDigits (ap (λ n. take n ds) (eqb-true _ _ all) ∙ take_all (length ds) ds (omega arith)) (all_leading is_digit ds) in
+    let lead = c.leading_of.ensures.value ∙ ap (prefix_len is_digit) cut in
+    let all : prefix_len is_digit ds ≡ length ds = omega (arith, ap length cut) in
+    let digits : AllDigits ds = subst AllDigits (ap (λ n. take n ds) all ∙ take_all (length ds) ds (omega arith)) (all_leading is_digit ds) in
     (grind (arith, nat_tests), cut, subst AllDigits (sym cut) digits)
