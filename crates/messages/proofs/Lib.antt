@@ -6,5 +6,6 @@ pub mod Ordered
 pub mod RepeatedNames
 pub mod Seeking
 pub mod Seen
+pub mod SharedFronts
 pub mod Verdicts
 pub mod Walked

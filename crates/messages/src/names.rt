@@ -1,11 +1,13 @@
 // Member names that come twice in a struct.
-ghost use Rattle.std.specs.Prelude.{◌≡◌, ℕ, ◌+◌, ◌<◌, map, length, slice_index_or};
+ghost use Rattle.std.specs.Prelude.{◌≡◌, ℕ, ◌+◌, ◌<◌, ◌≤◌, map, length, slice_index_or};
 ghost use Rattle.std.specs.Cmp.Lexicographic.{slice_cmp};
 ghost use Rattle.std.specs.Ordering.{nat_cmp};
+ghost use Rattle.std.specs.List.{common_prefix_len};
 ghost use Rattle.wire.specs.Rows.{blank_row};
 ghost use Rattle.characters.specs.Decoding.{decoded};
 ghost use Rattle.reader.specs.Contents.{content_of, stored_in};
 ghost use Rattle.messages.specs.Holding.{part_at, counts_of};
+ghost use Rattle.messages.specs.Order.{same_plain};
 ghost use Rattle.messages.specs.Sorted.{Ascends, IsPlaceOf, ComesIn};
 ghost use Rattle.messages.specs.Repeats.{RepeatAt, Least, StructsHold, earlier_of};
 
@@ -15,11 +17,23 @@ use characters::Characters;
 use std::cmp::Ordering;
 use wire::kind::Kind;
 
-// How two names stand to each other as read.
+// How many bytes two names share at the front that stand for themselves.
+fn shared_front(a: &[u8], b: &[u8]) -> usize
+    ensures value { result ≡ common_prefix_len same_plain a.now b.now }
+    ensures within { (result ≤ length a.now) × (result ≤ length b.now) }
+{
+    a.iter()
+        .zip(b)
+        .take_while(|(x, y)| x == y && **x != b'&' && **x != b'\r')
+        .count()
+}
+
+// How two names stand to each other as read. What they share at the front need not be read.
 fn name_order(a: &[u8], b: &[u8]) -> Ordering
     ensures { result ≡ slice_cmp nat_cmp (decoded a.now) (decoded b.now) }
 {
-    Characters::new(a).cmp(Characters::new(b))
+    let shared = shared_front(a, b);
+    Characters::new(&a[shared..]).cmp(Characters::new(&b[shared..]))
 }
 
 // The earlier of two rows, where there are any; `min` of two options would take nothing for the least.
@@ -52,6 +66,21 @@ impl<'m, 'r> Parsed<'m, 'r> {
         sorted.binary_search_by(|row| name_order(self.stored_name(*row), name))
     }
 
+    // The same; while names rise, the last row is asked first, since a name that rises on comes behind it.
+    fn seek_rising(self, sorted: &[u16], name: &[u8], rising: bool) -> Result<usize, usize>
+        requires { Ascends self.message.now self.rows.now sorted.now }
+        ensures { IsPlaceOf self.entry.message.now self.entry.rows.now sorted.now (decoded name.now) result }
+    {
+        match sorted.split_last() {
+            Some((last, rest)) if rising => match name_order(self.stored_name(*last), name) {
+                Ordering::Less => Err(sorted.len()),
+                Ordering::Equal => Ok(rest.len()),
+                Ordering::Greater => self.seek(rest, name),
+            },
+            _ => self.seek(sorted, name),
+        }
+    }
+
     // The first member of a struct whose name came before in it.
     fn repeat_in(self, at: usize, sorted: &mut Sorted) -> Option<usize>
         requires inside { at < length self.rows.now }
@@ -60,12 +89,16 @@ impl<'m, 'r> Parsed<'m, 'r> {
     {
         sorted.clear();
         let mut member = at + 1;
+        let mut rising = true;
         // A part's length shows only when it is passed, so the row is walked.
-        for _ in 0..self.rows[at].count {
+        for known in 0..self.rows[at].count {
             let name = self.rows[member].text.cut(self.message);
-            match self.seek(sorted.as_slice(), name) {
+            match self.seek_rising(sorted.as_slice(), name, rising) {
                 Ok(_) => return Some(member),
-                Err(place) => sorted.insert(place, member as u16),
+                Err(place) => {
+                    rising &= place == known as usize;
+                    sorted.insert(place, member as u16);
+                }
             }
             member = self.past_part(member);
         }

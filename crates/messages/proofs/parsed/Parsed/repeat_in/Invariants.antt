@@ -1,5 +1,5 @@
 use Rattle.messages.proofs.Seen.{Seen}
 use Rattle.messages.proofs.parsed.Parsed.repeat_in.Given as goal
 
-abbrev pub invariant-loop : goal.invariant-loop
-invariant-loop l = Seen l.self.message.now l.self.rows.now l.at l.counter l.member l.sorted
+abbrev pub invariant-loop-known : goal.invariant-loop-known
+invariant-loop-known l = Seen l.self.message.now l.self.rows.now l.at l.known l.member l.sorted
