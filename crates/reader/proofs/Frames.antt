@@ -6,7 +6,7 @@ use Rattle.reader.specs.declared.frame.Frame.{Frame}
 use Rattle.reader.specs.Frames.{no_frame, stack_of}
 
 -- a write past the open frames
-stack_past : (xs : List Frame) (d k : ℕ) (f : Frame) → d ≤ k → stack_of (set xs k f) d ≡ stack_of xs d
+pub stack_past : (xs : List Frame) (d k : ℕ) (f : Frame) → d ≤ k → stack_of (set xs k f) d ≡ stack_of xs d
 stack_past xs zero k f h = refl
 stack_past xs (suc d) k f h =
     let ne : d ≢ k = omega arith in
