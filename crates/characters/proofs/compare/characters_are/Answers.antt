@@ -1,10 +1,14 @@
-use Rattle.std.proofs.Common.{◌≡◌, rules}
-use Rattle.std.proofs.lemmas.Bool.Decides.{nat_tests}
+use Rattle.std.proofs.Common.{rules}
 use Rattle.std.proofs.lemmas.Iterator.{YieldsList-from_slice}
 use Rattle.std.proofs.lemmas.Iterator.Consumers.{YieldsList-from_copied}
+use Rattle.std.proofs.lemmas.List.{take_all}
 use Rattle.characters.specs.Decoding.{decoded}
-use Rattle.characters.proofs.Equal.{characters_yield, Decides-from_eq}
+use Rattle.characters.specs.Left.{left as toCome}
+use Rattle.characters.proofs.Equal.{Decides-from_try_fold}
 use Rattle.characters.proofs.compare.characters_are.Goals as goal
 
+-- the code takes no slice: `take_all` lets one pass that leaves nothing out, so that a planted one is refused for what it cuts
 pub returns : goal.returns
-returns c = Decides-from_eq (λ x y. y ≡ x) _ _ c.eq.ensures.ran (characters_yield (decoded c.args.text.now) (search rules)) (λ it e. YieldsList-from_copied (YieldsList-from_slice c.args.plain.now (cc))) (λ x y. search (rules, nat_tests))
+returns c =
+    let plain = c.args.plain.now in
+    Decides-from_try_fold _ c.copied.result _ toCome (decoded c.args.text.now) plain c.try_fold.ensures.ran (YieldsList-from_copied (YieldsList-from_slice plain cc)) (search (rules, take_all)) (λ p h t x v e. search rules) (search rules)
