@@ -10,7 +10,7 @@ use std::io::{ErrorKind, Read};
 fn line_feeds(bytes: &[u8]) -> usize
     ensures { result ≡ count_by (λ b. nat_eq b 10) bytes.now }
 {
-    // A loop: a `fold` took 1.6 times as long on what is passed over, `filter` and `count` twice.
+    // A loop: a `fold` took half as long again, `filter` and `count` two and a half times as long.
     let mut count = 0;
     for byte in bytes {
         count += usize::from(*byte == b'\n');
